@@ -1,0 +1,10 @@
+pub mod Calendar
+pub mod Discount
+pub mod Faults
+pub mod Fuel
+pub mod Meaning
+pub mod Plans
+pub mod Rounding
+pub mod Steps
+pub mod Tables
+pub mod Tariffs
