@@ -2,15 +2,16 @@
 use Prim.Native.Nat.{ℕ, _+_, _-_, _*_, _/_, _≤_, _<_}
 use mathlib.Core.Bool.{Bool, true, false, cond, not, _&&_}
 use mathlib.Core.List.{List, [], _∷_}
-use mathlib.Core.Path.{_≡_, refl, ap}
+use mathlib.Core.Logic.{inl, inr}
+use mathlib.Core.Path.{_≡_, refl}
 use native.Mathlib.Omega.{arith}
 use lib.Dec.{leb, lit≤}
 use lib.ListN.{length}
-use Rattle.std.proofs.shelf.Tests.{cond-true, cond-false, cond-both}
+use Rattle.std.proofs.shelf.Tests.{cases-bool, cond-true, cond-false, cond-both}
 use Rattle.std.specs.shelf.Lists.{All}
 use Rattle.std.specs.declared.option.Option.the-variants.{Some, None}
 use Rattle.tariff.specs.Calendar.{Date, date, on-calendar, summer, rest-day}
-use Rattle.tariff.specs.Meaning.{Lawful-tariff, Lawful}
+use Rattle.tariff.specs.Meaning.{Tariff-meaning, Lawful-tariff, Lawful}
 use Rattle.tariff.specs.Steps.{Step, right-table}
 use Rattle.tariff.specs.Tariffs.{tariff-of, between, halved-unless, night, night-class, night-tables, seasonal, seasonal-class, seasonal-tables}
 
@@ -46,3 +47,16 @@ seasonal-lawful capacity h = record {
   basic-bound = λ used. halved-bound used (130240 + 41694 * (capacity - 10)) (omega arith);
   minimum-bound = lit≤ tt;
 }
+
+-- an answered class is one of the classes
+pub class-within : (m : Tariff-meaning) (tables : List (List Step)) → Lawful-tariff m tables → (day : ℕ) (rest : Bool) (half-hour class : ℕ) → m .class day rest half-hour ≡ Some class → class < m .classes
+class-within m tables l day rest half-hour class e =
+    elim (cases-bool (on-calendar day half-hour)) [
+      | inl there ↦
+          let known = l .class-known day rest half-hour there in
+          let same : known .0 ≡ class = let k = known .1 in cc in
+          omega (arith, known .2)
+      | inr gone ↦
+          let none = l .class-none day rest half-hour gone in
+          absurd (let z : _≡_ {A = ℕ} 0 1 = cc in omega arith)
+    ]

@@ -1,0 +1,9 @@
+// Settling a month: boxes, readings, totals, the dearest-first choice, charges and net.
+mod charges;
+pub mod deposit_box;
+pub mod fault;
+pub mod prices;
+pub mod reading;
+pub mod split;
+pub mod totals;
+mod usage;
