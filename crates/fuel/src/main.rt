@@ -13,8 +13,8 @@ use tariff::fuel::Area;
 use tariff::fuel::FuelFault;
 use tariff::fuel::fuel_price;
 
-const USAGE: &str = "wanted are AREA (1 Tokyo, 2 Chubu, 3 Kansai) and three fuel inputs A, B, C in whole yen";
-    "usage: fuel AREA A B C   (AREA 1 Tokyo, 2 Chubu, 3 Kansai; A, B, C in whole yen)";
+const USAGE: &str =
+    "wanted are AREA (1 Tokyo, 2 Chubu, 3 Kansai) and three fuel inputs A, B, C in whole yen";
 
 fn area_name(area: Area) -> &'static str
     ensures { λ r. ⌜ now r ≡ area-name area ⌝ }
