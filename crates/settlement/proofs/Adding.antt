@@ -11,7 +11,7 @@ use lib.ListN.{length, take, getD, set, replicate, length-take, length-set}
 use lib.Seq.{getD-set-same, getD-set-other, getD-take}
 use Rattle.std.proofs.shelf.Counted.{fill-by-all, getD-map-counting, length-map-counting}
 use Rattle.std.proofs.shelf.Elements.{all-take}
-use Rattle.std.proofs.shelf.Lists.{take-more}
+use Rattle.std.proofs.shelf.Lists.{take-more, take-more-set, take-all}
 use Rattle.std.proofs.shelf.Sums.{sumBy-cons, sumBy-le, sumBy-more, sumBy-push, sumBy-set, getD-le-sumBy}
 use Rattle.std.proofs.shelf.Tests.{and-parts, cases-eq, eq-eqb, ne-eqb, leb-true}
 use Rattle.std.proofs.shelf.Ways.{tells}
@@ -23,8 +23,7 @@ use Rattle.settlement.specs.Limits.{figures-within}
 use Rattle.tariff.specs.Meaning.{Tariff-meaning, Lawful-tariff}
 use Rattle.tariff.specs.Steps.{Step}
 use Rattle.tariff.proofs.Lawful.{class-within}
-use Rattle.settlement.specs.Totals.{Month-totals, of-class, in-class, day-in-class, totals-of, plus-day, numbered}
-use Rattle.settlement.specs.declared.reading.Reading.{Reading}
+use Rattle.settlement.specs.Totals.{Figures, Month-totals, of-class, in-class, day-in-class, totals-of, plus-day, numbered}
 
 figures-low : (xs : List ℕ) → figures-within xs ≡ true → All (λ x. x ≤ 2500) xs
 figures-low [] e = tt
@@ -116,7 +115,7 @@ by-class-more n k after before day same wide each =
 pub same-month : (a b : Month-totals) → a .used ≡ b .used → a .by-class ≡ b .by-class → a .surplus ≡ b .surplus → a ≡ b
 same-month a b used by-class surplus = λ i. record { used = used i; by-class = by-class i; surplus = surplus i }
 
-pub totals-push : (m : Tariff-meaning) (days : List (ℕ × Reading)) (d : ℕ × Reading) → totals-of m (days ++ d ∷ []) ≡ plus-day m (totals-of m days) d
+pub totals-push : (m : Tariff-meaning) (days : List (ℕ × Figures)) (d : ℕ × Figures) → totals-of m (days ++ d ∷ []) ≡ plus-day m (totals-of m days) d
 totals-push m days d =
     same-month _ _ (sumBy-push (λ x. sum (x .1 .used)) days d)
     (fill-by-all _ _ (m .classes) 0 (length-map-counting _ 0 (m .classes)) (λ k h.
@@ -125,11 +124,11 @@ totals-push m days d =
     ∙ sym (ap (λ x. x + day-in-class m k d) (getD-map-counting (λ class. sumBy (day-in-class m class) days) 0 (m .classes) k k 0 h (omega arith)))))
     (sumBy-push (λ x. sum (x .1 .surplus)) days d)
 
-pub numbered-push : (first : ℕ) (readings : List Reading) (r : Reading) → numbered first (readings ++ r ∷ []) ≡ numbered first readings ++ (first + length readings, r) ∷ []
+pub numbered-push : (first : ℕ) (readings : List Figures) (r : Figures) → numbered first (readings ++ r ∷ []) ≡ numbered first readings ++ (first + length readings, r) ∷ []
 numbered-push first [] r = let at = add-zero first in ap (λ (n : ℕ). (n, r) ∷ []) (sym at)
 numbered-push first (x ∷ readings) r =
     let at : suc first + length readings ≡ first + suc (length readings) = omega arith in
-    ap (λ (rest : List (ℕ × Reading)). (first, x) ∷ rest) (numbered-push (suc first) readings r ∙ ap (λ (n : ℕ). numbered (suc first) readings ++ (n, r) ∷ []) at)
+    ap (λ (rest : List (ℕ × Figures)). (first, x) ∷ rest) (numbered-push (suc first) readings r ∙ ap (λ (n : ℕ). numbered (suc first) readings ++ (n, r) ∷ []) at)
 
 -- the class of a half-hour is one of the tariff's, which are at most four
 pub one-of-four : (m : Tariff-meaning) (tables : List (List Step)) (n : ℕ) → Lawful-tariff m tables → m .classes ≡ n → (day : ℕ) (rest : Bool) (half-hour k : ℕ) → Some k ≡ m .class day rest half-hour → (k < n) × (n ≤ 4)
@@ -151,3 +150,16 @@ getD-zeros (suc n) (suc k) (suc j) = getD-zeros n k j
 pub totals-none : (m : Tariff-meaning) (n : ℕ) → m .classes ≡ n → n ≤ 4 → _≡_ {A = Month-totals} (record { used = 0; by-class = take n (replicate 4 0); surplus = 0 }) (totals-of m [])
 totals-none m n kind few =
     same-month _ _ refl (fill-by-all (λ class. 0) (take n (replicate 4 0)) (m .classes) 0 (simp length-take (omega arith)) (λ k h. getD-zeros n 4 k)) refl
+
+-- Totals that were given, copied class by class.
+module _ (used by : List ℕ) (i all surplus : ℕ) (wide : length by ≡ 4) (few : length used ≤ 4) (same : take i by ≡ take i used) (sums : all ≡ sum (take i used)) where
+  pub copied-more : i < length used → (take (i + 1) (set by i (getD used i 0)) ≡ take (i + 1) used) × (all + getD used i 0 ≡ sum (take (i + 1) used))
+  copied-more lt =
+      let there : i < length by = omega arith in
+      (take-more-set by i (getD used i 0) there ∙ ap (λ front. front ++ getD used i 0 ∷ []) same ∙ sym (take-more used i 0 lt), omega (arith, sumBy-more (λ x. x) used i 0 lt))
+
+  pub copied-all : length used ≤ i → i ≤ length used → (take (length used) by ≡ used) × (all ≡ sum used)
+  copied-all le ge =
+      let here : i ≡ length used = omega arith in
+      let whole = take-all i used le in
+      (ap (λ n. take n by) (sym here) ∙ same ∙ whole, sums ∙ ap sum whole)

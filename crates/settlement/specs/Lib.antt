@@ -1,7 +1,11 @@
 pub mod Boxes
 pub mod Charges
+pub mod Credited
 pub mod Faults
+pub mod Held
 pub mod Limits
 pub mod Readings
+pub mod Rows
+pub mod Settling
 pub mod Totals
 pub mod Usage

@@ -4,11 +4,38 @@ ghost use lib.ListN.{length, take, getD};
 ghost use Rattle.std.specs.Options.{mapped};
 ghost use Rattle.std.specs.shelf.Lists.{sum};
 ghost use Rattle.settlement.specs.Limits.{figures-within};
-ghost use Rattle.settlement.specs.Totals.{day-in-class, gathered, month-of};
+ghost use Rattle.settlement.specs.Totals.{figures-of, all-figures, day-in-class, gathered, given-totals, month-of};
 ghost use mathlib.Core.Bool.{true};
 use super::Totals;
 use crate::reading::Reading;
 use tariff::supply::Tariff;
+
+impl Totals {
+    /// The totals of used hundredths by class and surplus hundredths, as far as a month of 35 days can have them.
+    pub fn new(used: &[u32], surplus: u32) -> Option<Totals>
+        ensures { λ r. ⌜ mapped month-of r ≡ given-totals (now (used .entry)) surplus ⌝ }
+    {
+        if used.is_empty() || used.len() > 4 || surplus > 4_200_000 {
+            return None;
+        }
+        let mut by_class = [0; 4];
+        let mut all = 0u64;
+        for (class, hundredths) in used.iter().enumerate() {
+            by_class[class] = *hundredths;
+            all += u64::from(*hundredths);
+        }
+        if all > 4_200_000 {
+            return None;
+        }
+        Some(Totals {
+            days: 35,
+            classes: used.len() as u8,
+            used: all as u32,
+            by_class,
+            surplus,
+        })
+    }
+}
 
 // The sum of a day's figures.
 fn total(figures: &[u16; 48]) -> u32
@@ -27,7 +54,7 @@ fn total(figures: &[u16; 48]) -> u32
 fn add_classes<T: Tariff>(tariff: &T, day: u16, reading: &Reading, sums: &mut [u32; 4])
     requires day { ⌜ day ≤ 36524 ⌝ }
     requires room { ⌜ sum (take classes (now sums)) ≤ 4080000 ⌝ }
-    ensures each { λ _. ⌜ ((class : ℕ) → class < classes → getD (now (sums .exit)) class 0 ≡ getD (now (sums .entry)) class 0 + day-in-class (meaning (now (tariff .entry))) class (day, now (reading .entry))) ⌝ }
+    ensures each { λ _. ⌜ ((class : ℕ) → class < classes → getD (now (sums .exit)) class 0 ≡ getD (now (sums .entry)) class 0 + day-in-class (meaning (now (tariff .entry))) class (day, figures-of (now (reading .entry)))) ⌝ }
     ensures all { λ _. ⌜ sum (take classes (now (sums .exit))) ≡ sum (take classes (now (sums .entry))) + sum (now (reading .entry) .used) ⌝ }
 {
     for (half_hour, used) in reading.used.iter().enumerate() {
@@ -40,7 +67,7 @@ fn add_classes<T: Tariff>(tariff: &T, day: u16, reading: &Reading, sums: &mut [u
 /// The totals of a month of consecutive days from a day number on; none where a day is missing or not on the calendar,
 /// or where there are more than 35.
 pub fn gather<T: Tariff>(tariff: &T, first: u16, days: &[Option<Reading>]) -> Option<Totals>
-    ensures { λ r. ⌜ mapped month-of r ≡ gathered (meaning (now (tariff .entry))) first (now (days .entry)) ⌝ }
+    ensures { λ r. ⌜ mapped month-of r ≡ gathered (meaning (now (tariff .entry))) first (all-figures (now (days .entry))) ⌝ }
 {
     if days.len() > 35 || usize::from(first) + days.len() > 36_525 {
         return None;
