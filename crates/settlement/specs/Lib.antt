@@ -6,6 +6,7 @@ pub mod Held
 pub mod Limits
 pub mod Readings
 pub mod Rows
+pub mod Settlements
 pub mod Settling
 pub mod Totals
 pub mod Usage

@@ -6,6 +6,7 @@ pub mod fault;
 pub mod prices;
 pub mod reading;
 pub mod rows;
+pub mod settlement;
 pub mod split;
 pub mod totals;
 mod usage;
