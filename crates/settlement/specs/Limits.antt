@@ -1,5 +1,5 @@
 -- The limits that readings, totals and prices keep.
-use Prim.Native.Nat.{ℕ}
+use Prim.Native.Nat.{ℕ, _^_}
 use mathlib.Core.Bool.{Bool, true, _&&_}
 use mathlib.Core.List.{List, [], _∷_}
 use lib.Dec.{leb}
@@ -14,3 +14,7 @@ prices-within fuel levy buy = leZ (negsuc 9999) fuel && (leZ fuel (pos 10000) &&
 abbrev pub figures-within : List ℕ → Bool
 figures-within [] = true
 figures-within (x ∷ xs) = leb x 2500 && figures-within xs
+
+-- nets stay far from the ends of their type, so that two can be subtracted
+abbrev pub net-within : ℤ → Bool
+net-within net = leZ (negsuc (2 ^ 62)) net && leZ net (pos (2 ^ 62))
