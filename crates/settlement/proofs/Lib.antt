@@ -6,3 +6,4 @@ pub mod Gathered
 pub mod Gathering
 pub mod Kwh
 pub mod Loops
+pub mod Months

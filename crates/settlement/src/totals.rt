@@ -2,7 +2,7 @@ mod methods;
 
 ghost use mathlib.Core.Path.{_≡_};
 ghost use Prim.Native.Nat.{_*_, _≤_};
-ghost use lib.ListN.{take};
+ghost use lib.ListN.{length, take};
 ghost use Rattle.std.specs.shelf.Lists.{sum};
 pub use methods::gather;
 
@@ -16,6 +16,7 @@ pub struct Totals {
     pub by_class: [u32; 4],
     pub surplus: u32,
     ghost month: { days ≤ 35 },
+    ghost wide: { length «by_class» ≡ 4 },
     ghost few: { (1 ≤ classes) × (classes ≤ 4) },
     ghost added: { sum (take classes «by_class») ≡ used },
     ghost used_bound: { used ≤ 120000 * days },
