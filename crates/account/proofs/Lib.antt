@@ -1,0 +1,11 @@
+pub mod Alike
+pub mod Calls
+pub mod Closing
+pub mod Complete
+pub mod Held
+pub mod MonthDays
+pub mod Months
+pub mod Nets
+pub mod OpenMonth
+pub mod Unrefused
+pub mod Upholding

@@ -1,0 +1,9 @@
+pub mod Calendars
+pub mod Calls
+pub mod Faults
+pub mod History
+pub mod Law
+pub mod Ledger
+pub mod Standing
+pub mod View
+pub mod Replies
