@@ -7,5 +7,6 @@ pub mod MonthDays
 pub mod Months
 pub mod Nets
 pub mod OpenMonth
+pub mod Running
 pub mod Unrefused
 pub mod Upholding

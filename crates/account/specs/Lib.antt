@@ -7,3 +7,4 @@ pub mod Ledger
 pub mod Standing
 pub mod View
 pub mod Replies
+pub mod Runs

@@ -5,3 +5,4 @@ pub mod call;
 pub mod day_table;
 mod entry;
 pub mod fault;
+pub mod replay;
