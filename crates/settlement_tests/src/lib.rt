@@ -1,6 +1,10 @@
 // Worked months at the edges of the rules. They stand in a crate of their own, since a crate with tests is proved twice.
+pub mod two_rates;
+
 #[cfg(test)]
 mod tests {
+    use crate::two_rates::TwoRates;
+    use crate::two_rates::TwoRatesSupply;
     use settlement::deposit_box::DepositBox;
     use settlement::fault::MonthFaultDebug;
     use settlement::prices::Prices;
@@ -17,6 +21,7 @@ mod tests {
     use tariff::seasonal::SeasonalTariff;
     use tariff::standard::Standard;
     use tariff::standard::StandardSupply;
+    use tariff::steps::StepTable;
 
     // A month of Standard at 10 kVA.
     fn standard(letter: char, prices: Prices, used: u32, surplus: u32) -> Option<Settlement> {
@@ -130,6 +135,30 @@ mod tests {
             Some([40, 140, 20, 0]),
         )?;
         check_eq(net(night(25_000, 15_000, 20_000)), Some(9_389))
+    }
+
+    // 30 kWh in the morning, 10 at 1 yen and 20 at 3, and 12 in the afternoon, 5 at 3 yen and 7 at 5; box L.
+    fn two_rates(surplus: u32) -> Option<Settlement> {
+        let supply = TwoRates {
+            morning: StepTable::new(&[(Some(10), 100), (None, 300)])?,
+            afternoon: StepTable::new(&[(Some(5), 300), (None, 500)])?,
+        };
+        let free = Prices::new(0, 0, 0).ok()?;
+        settle(
+            &supply,
+            DepositBox::L,
+            free,
+            &Totals::new(&[3_000, 1_200], surplus)?,
+        )
+    }
+
+    #[test]
+    fn a_dear_step_of_a_later_class_does_not_wait() -> Result<(), Fail> {
+        // 7 kWh at 5 yen first, then those at 3 yen: the lower class before the higher
+        check_eq(shares(two_rates(700)), Some([0, 0, 0, 7]))?;
+        check_eq(shares(two_rates(2_000)), Some([0, 13, 0, 7]))?;
+        check_eq(shares(two_rates(3_000)), Some([0, 20, 3, 7]))?;
+        check_eq(shares(two_rates(9_999)), Some([10, 20, 5, 7]))
     }
 
     #[test]
