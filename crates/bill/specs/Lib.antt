@@ -1,1 +1,5 @@
+pub mod Kinds
+pub mod Lines
+pub mod Reasons
+pub mod Statements
 pub mod Words

@@ -1,14 +1,26 @@
--- The names of a tariff's classes as they are printed.
-use Prim.Native.Nat.{ℕ}
-use mathlib.Core.Bool.{cond}
-use mathlib.Core.List.{List}
-use lib.Chars.{codes}
-use lib.Dec.{eqb}
-use Rattle.bill.specs.declared.Kind.{Kind}
-use Rattle.bill.specs.declared.Kind.the-variants.{Standard, Night, Seasonal}
+-- What the words of the command line stand for.
+use Prim.Native.Nat.{ℕ, min}
+use mathlib.Core.Bool.{cond, _&&_}
+use mathlib.Core.List.{List, [], _∷_}
+use lib.IntN.{ℤ, pos, negsuc}
+use lib.Signed.{leZ}
+use Rattle.std.specs.declared.option.Option.{Option}
+use Rattle.std.specs.declared.option.Option.the-variants.{None}
+use Rattle.settlement.specs.Boxes.{box-lettered}
+use Rattle.settlement.specs.declared.deposit_box.DepositBox.{DepositBox}
 
-abbrev pub class-name : Kind → ℕ → List ℕ
-class-name Standard class = codes "all hours"
-class-name Night class = cond (eqb class 0) (codes "7:00-23:00") (codes "other hours")
-class-name Seasonal class =
-    cond (eqb class 0) (codes "summer peak") (cond (eqb class 1) (codes "summer day") (cond (eqb class 2) (codes "other season day") (codes "remaining hours")))
+-- A number where it is at most `most` and not negative, and `most` itself for any other: so that a number that no rule
+-- allows stays one that no rule allows.
+abbrev pub at-most : ℕ → ℤ → ℕ
+at-most most (pos n) = min n most
+at-most most (negsuc n) = most
+
+-- the same of a price that may be negative
+abbrev pub as-fuel : ℤ → ℤ
+as-fuel n = cond (leZ (negsuc 32767) n && leZ n (pos 32767)) n (pos 32767)
+
+-- the deposit box of a word that is its letter
+abbrev pub box-named : List ℕ → Option DepositBox
+box-named [] = None
+box-named (letter ∷ []) = box-lettered letter
+box-named (letter ∷ (next ∷ rest)) = None

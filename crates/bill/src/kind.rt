@@ -1,0 +1,7 @@
+// A kind of tariff.
+#[derive(Clone, Copy)]
+pub enum Kind {
+    Standard,
+    Night,
+    Seasonal,
+}
