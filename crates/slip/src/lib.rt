@@ -1,0 +1,2 @@
+// Slips: the bytes in which openings and calls come.
+pub mod fault;
