@@ -1,4 +1,6 @@
 // The account: its calls, the ledger it is held to, and the law of runs.
+#![tactic(auto)]
+
 pub mod account;
 pub mod calendar;
 pub mod call;

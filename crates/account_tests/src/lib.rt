@@ -1,4 +1,6 @@
 // Tests of accounts.
+#![tactic(auto)]
+
 #[cfg(test)]
 mod tests {
     use account::account::Account;

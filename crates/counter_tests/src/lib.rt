@@ -1,4 +1,6 @@
 // Tests of the counter.
+#![tactic(auto)]
+
 #[cfg(test)]
 mod tests {
     use counter::counter::Counter;

@@ -1,4 +1,6 @@
 // fuel AREA A B C: the month's fuel price of an area, 1 Tokyo, 2 Chubu or 3 Kansai, from the three fuel inputs in whole yen.
+#![tactic(auto)]
+
 ghost use Rattle.std.specs.Prelude.{◌≡◌, ◌-◌, ◌^◌, min, IfOk, string_bytes};
 ghost use Rattle.std.specs.Str.Parse.{digits_value, without_leading_plus};
 ghost use Rattle.fuel.specs.Words.{area_name, reason_of, inputs_line, price_line};

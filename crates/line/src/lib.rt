@@ -1,3 +1,5 @@
 // The lines of a run, written into a caller's buffer.
+#![tactic(auto)]
+
 pub mod fault;
 pub mod line;

@@ -1,4 +1,6 @@
 // settle: takes the slips of standard input, and writes a line for each to standard output.
+#![tactic(auto)]
+
 ghost use Rattle.std.specs.Prelude.{◌≡◌, IfOk};
 ghost use Rattle.counter.specs.Run.{run_bytes};
 

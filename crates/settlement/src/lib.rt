@@ -1,4 +1,6 @@
 // Settling a month: boxes, readings, totals, the dearest-first choice, charges and net.
+#![tactic(auto)]
+
 mod charges;
 pub mod choice;
 pub mod deposit_box;

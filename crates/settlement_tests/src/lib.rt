@@ -1,4 +1,6 @@
 // Worked months at the edges of the rules. They stand in a crate of their own, since a crate with tests is proved twice.
+#![tactic(auto)]
+
 pub mod two_rates;
 
 #[cfg(test)]

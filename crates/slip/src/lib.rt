@@ -1,4 +1,6 @@
 // Slips: the bytes in which openings and calls come.
+#![tactic(auto)]
+
 pub mod fault;
 pub mod reader;
 pub mod slip;

@@ -1,4 +1,6 @@
 // Tests of reading and writing slips.
+#![tactic(auto)]
+
 #[cfg(test)]
 mod tests {
     use slip::reader::Reader;

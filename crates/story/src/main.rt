@@ -1,5 +1,7 @@
 // A hotel's July and first days of August: posted, drafted, closed, corrected twice after closing, shown again, with the
 // sum charged so far. Each call is printed with its answer.
+#![tactic(auto)]
+
 ghost use Rattle.std.specs.Prelude.{◌≡◌};
 ghost use Rattle.story.specs.Charges.{charge_of};
 

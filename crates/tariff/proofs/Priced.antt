@@ -5,7 +5,7 @@ use Rattle.std.proofs.lemmas.List.{at_drop_all}
 use Rattle.std.proofs.lemmas.Bool.{and_parts, both_ways, leb-true, lt-ltb, le-ltb}
 use Rattle.std.specs.List.{slice_get, AllByRecursion as All}
 use Rattle.tariff.specs.Meaning.{TariffMeaning, LawfulTariff, EveryKwhPriced}
-use Rattle.tariff.specs.Steps.{Step, rising, right_table, price_in, price_of, above, FirstAbove}
+use Rattle.tariff.specs.Steps.{Step, rising, right_table, price_in, above, FirstAbove}
 
 drop_at : (steps : List Step) (i : ℕ) (s : Step) → slice_get steps i ≡ Some s → drop i steps ≡ s ∷ drop (suc i) steps
 drop_at [] i s e = absurd (let z : ◌≡◌ {A = ℕ} 0 1 = cc in omega arith)

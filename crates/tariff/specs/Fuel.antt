@@ -1,5 +1,5 @@
 -- A month's fuel price, from the average price of fuel.
-use Rattle.std.specs.Prelude.{ℕ, ◌+◌, ◌-◌, ◌*◌, Bool, cond, ◌&&◌, ◌||◌, ℤ, pos, neg_ℤ, Some, None, Ok, Err, Option, Result, ◌==◌, nat_le}
+use Rattle.std.specs.Prelude.{ℕ, ◌+◌, ◌-◌, ◌*◌, Bool, cond, ◌&&◌, ℤ, pos, neg_ℤ, Some, None, Ok, Err, Option, Result, ◌==◌, nat_le}
 use Rattle.tariff.specs.Rounding.{half_up}
 use Rattle.tariff.specs.Faults.{Refusal}
 use Rattle.tariff.specs.declared.fuel.Area.{Area}

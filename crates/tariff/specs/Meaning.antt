@@ -1,5 +1,5 @@
 -- What a tariff and a supply mean, each as one value, and what every lawful one keeps.
-use Rattle.std.specs.Prelude.{◌≡◌, ℕ, ◌<◌, ◌≤◌, Bool, true, false, cond, List, [], length, Some, None, Option, slice_index_or}
+use Rattle.std.specs.Prelude.{◌≡◌, ℕ, ◌<◌, ◌≤◌, Bool, true, false, List, [], length, Some, None, Option, slice_index_or}
 use Rattle.std.specs.List.{AllByRecursion as All}
 use Rattle.tariff.specs.Calendar.{on_calendar}
 use Rattle.tariff.specs.Steps.{Step, right_table, price_of, FirstAbove}

@@ -1,4 +1,6 @@
 // Tariffs: days, tables of steps, what a supply means, the three tariffs, discounts, plans and fuel prices.
+#![tactic(auto)]
+
 pub mod day;
 pub mod discount;
 pub mod fault;

@@ -49,8 +49,8 @@ pub trait Supply: Tariff {
 
 /// The price in sen of kWh number `kwh` of a class in a month, counted from 0; none where there is no such class.
 pub fn price_of<T: Tariff>(tariff: &T, class: u8, kwh: u32) -> Option<u32>
-    ensures value { result ≡ (meaning tariff.now).price class kwh }
-    ensures every { EveryKwhPriced (meaning tariff.now) (tables tariff.now) }
+    ensures value { result ≡ (T.meaning tariff.now).price class kwh }
+    ensures every { EveryKwhPriced (T.meaning tariff.now) (T.tables tariff.now) }
 {
     for i in 0..4u8 {
         match tariff.step(class, i) {

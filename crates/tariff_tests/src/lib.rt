@@ -1,5 +1,7 @@
 // Worked values of the tariffs, discounts, plans and fuel prices, most of them at the edge of a rule.
 // They stand in a crate of their own, since a crate with tests is proved twice.
+#![tactic(auto)]
+
 #[cfg(test)]
 mod tests {
     use std::test::Fail;

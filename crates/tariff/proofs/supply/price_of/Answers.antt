@@ -1,4 +1,4 @@
-use Rattle.std.proofs.Common.{◌≡◌, ◌≤◌, [], length, get_or, Option, sym, ◌∙◌, arith}
+use Rattle.std.proofs.Common.{sym, ◌∙◌, arith}
 use Rattle.tariff.proofs.Priced.{in_step, past_step, in_last, no_step, no_more, every_priced, four_at_most}
 use Rattle.tariff.proofs.supply.price_of.Goals as goal
 

@@ -1,4 +1,4 @@
-use Rattle.std.proofs.Common.{arith, rules}
+use Rattle.std.proofs.Common.{rules}
 use Rattle.tariff.proofs.Rising.{nth_within, nth_beyond}
 use Rattle.tariff.proofs.steps.StepTable.step.Goals as goal
 

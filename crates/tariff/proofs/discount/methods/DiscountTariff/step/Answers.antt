@@ -4,16 +4,16 @@ use Rattle.tariff.specs.Discount.{discounted_step}
 use Rattle.tariff.specs.Percent.{step_kept}
 use Rattle.tariff.proofs.discount.methods.DiscountTariff.step.Goals as goal
 
-pub returns-in-err-end : goal.returns-in-err-end
-returns-in-err-end g c =
+pub returns-in_err-end : goal.returns-in_err-end
+returns-in_err-end g c =
     let percent = c.args.self.now.percent in
-    c.from-residual.ensures
-    ∙ ap (option_map (discounted_step percent)) (sym c.in-err-end.was ∙ c.step.ensures)
+    c.from_residual.ensures
+    ∙ ap (option_map (discounted_step percent)) (sym c.in_err-end.was ∙ c.step.ensures)
     ∙ step_kept percent (g.T.Tariff.tables c.args.self.now.supply) c.args.class c.args.step
 
 pub returns : goal.returns
 returns g c =
     let percent = c.args.self.now.percent in
-    ap (λ (price : ℕ). Some (c.in-ok-end.end, price)) c.price-at.ensures
-    ∙ ap (option_map (discounted_step percent)) (sym c.in-ok-end.was ∙ c.step.ensures)
+    ap (λ (price : ℕ). Some (c.in_ok-end.end, price)) c.price_at.ensures
+    ∙ ap (option_map (discounted_step percent)) (sym c.in_ok-end.was ∙ c.step.ensures)
     ∙ step_kept percent (g.T.Tariff.tables c.args.self.now.supply) c.args.class c.args.step
