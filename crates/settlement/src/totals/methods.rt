@@ -50,9 +50,9 @@ fn total(figures: &[u16; 48]) -> u32
 // Adds the day's used energy to the sums by class, each half-hour to that of its class.
 fn add_classes<T: Tariff>(tariff: &T, day: u16, reading: &Reading, sums: &mut [u32; 4])
     requires day { day ≤ 36524 }
-    requires room { sum (take classes sums.old) ≤ 4080000 }
-    ensures each { (class : ℕ) → class < classes → slice_index sums.new class ≡ slice_index sums.old class + day_in_class (meaning tariff.now) class (day, figures_of reading.now) }
-    ensures all { sum (take classes sums.new) ≡ sum (take classes sums.old) + sum reading.now.used }
+    requires room { sum (take T.classes sums.old) ≤ 4080000 }
+    ensures each { (class : ℕ) → class < T.classes → slice_index sums.new class ≡ slice_index sums.old class + day_in_class (T.meaning tariff.now) class (day, figures_of reading.now) }
+    ensures all { sum (take T.classes sums.new) ≡ sum (take T.classes sums.old) + sum reading.now.used }
 {
     for (half_hour, used) in reading.used.iter().enumerate() {
         if let Some(class) = tariff.class(day, reading.rest, half_hour as u8) {
@@ -64,7 +64,7 @@ fn add_classes<T: Tariff>(tariff: &T, day: u16, reading: &Reading, sums: &mut [u
 /// The totals of a month of consecutive days from a day number on; none where a day is missing or not on the calendar,
 /// or where there are more than 35.
 pub fn gather<T: Tariff>(tariff: &T, first: u16, days: &[Option<Reading>]) -> Option<Totals>
-    ensures { option_map month_of result ≡ gathered (meaning tariff.now) first (all_figures days.now) }
+    ensures { option_map month_of result ≡ gathered (T.meaning tariff.now) first (all_figures days.now) }
 {
     if days.len() > 35 || usize::from(first) + days.len() > 36_525 {
         return None;

@@ -1,9 +1,9 @@
-use Rattle.std.proofs.Common.{◌≡◌, ℕ, ◌+◌, ◌-◌, ◌<◌, ◌≤◌, length, get_or, take, set, refl, ap, ◌∙◌, arith, length-take, get_or-take, rules}
+use Rattle.std.proofs.Common.{◌≡◌, ◌+◌, ◌-◌, ◌<◌, length, get_or, take, set, refl, ap, ◌∙◌, arith, length-take, get_or-take}
 use Rattle.settlement.proofs.Kwh.{enough, found_more, found_all}
 use Rattle.settlement.proofs.usage.by_class.Goals as goal
 
-pub overflow-sub-left : goal.overflow-sub-left
-overflow-sub-left c =
+pub overflow_sub-left : goal.overflow_sub-left
+overflow_sub-left c =
     let xs = take c.args.totals.now.classes c.args.totals.now.by_class in
     let below : c.loop-class.class < c.args.totals.now.classes = omega arith in
     let within : c.loop-class.class < length xs = simp length-take (omega arith) in

@@ -1,4 +1,4 @@
-use Rattle.std.proofs.Common.{◌≡◌, ℕ, ◌<◌, ◌≤◌, Bool, true, false, cond, ◌&&◌, leb, length, take, Some, sum, sym, refl, ap, ◌∙◌, arith, length-set, rules}
+use Rattle.std.proofs.Common.{◌≡◌, ◌≤◌, true, false, ◌&&◌, leb, length, Some, sum, sym, refl, ap, ◌∙◌, arith, length-set, rules}
 use Rattle.std.proofs.lemmas.Bool.{cond-true, cond-false}
 use Rattle.std.proofs.lemmas.Bool.Decides.{nat_tests}
 use Rattle.settlement.proofs.Adding.{copied_more, copied_all, same_month}
@@ -7,7 +7,7 @@ use Rattle.settlement.proofs.totals.Totals.new.Goals as goal
 pub loop-class-preserved : goal.loop-class-preserved
 loop-class-preserved c =
     let more = copied_more c.args.used.now c.loop-class.by_class c.loop-class.class c.loop-class.all c.args.surplus c.loop-class.invariant.0 (omega arith) c.loop-class.invariant.1 c.loop-class.invariant.2 c.loop-class-test.true in
-    (simp length-set c.loop-class.invariant.0, more.0, omega (arith, c.from-all.ensures, more.1), omega (arith, c.from-all.type-inv, c.loop-class.invariant.3))
+    (simp length-set c.loop-class.invariant.0, more.0, omega (arith, c.from-all.ensures, more.1), omega (arith, c.from-all.type_inv, c.loop-class.invariant.3))
 
 pub returns-then-all-gt4200000 : goal.returns-then-all-gt4200000
 returns-then-all-gt4200000 c =

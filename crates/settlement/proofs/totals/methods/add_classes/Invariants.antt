@@ -1,5 +1,5 @@
 use Rattle.settlement.proofs.Adding.{Added}
 use Rattle.settlement.proofs.totals.methods.add_classes.Given as goal
 
-abbrev pub invariant-loop-half-hour : goal.invariant-loop-half-hour
-invariant-loop-half-hour g l = Added ((g.T.Tariff.meaning l.tariff).class l.day l.reading.rest) g.T.Tariff.classes l.reading.used l.initial.sums l.half-hour l.sums
+abbrev pub invariant-loop-half_hour : goal.invariant-loop-half_hour
+invariant-loop-half_hour g l = Added ((g.T.Tariff.meaning l.tariff).class l.day l.reading.rest) g.T.Tariff.classes l.reading.used l.initial.sums l.half_hour l.sums

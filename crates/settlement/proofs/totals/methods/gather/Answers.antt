@@ -36,17 +36,17 @@ pub loop-i-preserved : goal.loop-i-preserved
 loop-i-preserved g c =
     let kind = g.met.T.Tariff.kind c.args.tariff.now in
     let few : g.T.Tariff.classes ≤ 4 = omega (arith, (g.met.T.Tariff.lawful c.args.tariff.now).few_classes) in
-    let four : length c.add-classes.new.sums ≡ 4 = search rules in
+    let four : length c.add_classes.new.sums ≡ 4 = search rules in
     let days = c.args.days.now in
     let there : c.loop-i.i < length (all_figures days) = omega (arith, many days) in
     let used = c.loop-i.invariant.1 in
     let used_Low = c.loop-i.invariant.2 in
     let surplus-low = c.loop-i.invariant.3 in (
       four,
-      omega (arith, c.add-classes.ensures.all, c.total-used.ensures.value),
+      omega (arith, c.add_classes.ensures.all, c.total-used.ensures.value),
       omega (arith, c.total-used.ensures.bound),
       omega (arith, c.total-surplus.ensures.bound),
-      day_more (g.T.Tariff.meaning c.args.tariff.now) c.args.first (all_figures days) g.T.Tariff.classes c.loop-i.i c.loop-i.used c.loop-i.surplus c.total-used.result c.total-surplus.result c.loop-i.by_class c.add-classes.new.sums _ kind (omega arith) there (figures_at days c.loop-i.i _ c.loop-i-test.true c.index-days-i.is ∙ ap (option_map figures_of) c.in-Some.is) c.total-used.ensures.value c.total-surplus.ensures.value c.add-classes.ensures.each c.loop-i.invariant.4,
+      day_more (g.T.Tariff.meaning c.args.tariff.now) c.args.first (all_figures days) g.T.Tariff.classes c.loop-i.i c.loop-i.used c.loop-i.surplus c.total-used.result c.total-surplus.result c.loop-i.by_class c.add_classes.new.sums _ kind (omega arith) there (figures_at days c.loop-i.i _ c.loop-i-test.true c.index-days-i.is ∙ ap (option_map figures_of) c.in-Some.is) c.total-used.ensures.value c.total-surplus.ensures.value c.add_classes.ensures.each c.loop-i.invariant.4,
     )
 
 pub returns : goal.returns
@@ -55,5 +55,5 @@ returns g c =
     let long = many days in
     let month : is_month c.args.first (length (all_figures days)) ≡ true = grind (arith, nat_tests) in
     let counted : ℕ → MonthTotals = λ n. record { used = c.loop-i.used; by_class = take n c.loop-i.by_class; surplus = c.loop-i.surplus } in
-    ap (λ (n : ℕ). Some (counted n)) c.class-count.ensures
+    ap (λ (n : ℕ). Some (counted n)) c.class_count.ensures
     ∙ so_far_all (g.T.Tariff.meaning c.args.tariff.now) c.args.first (all_figures days) c.loop-i.i _ (omega (arith, c.loop-i-test.false)) month c.loop-i.invariant.4
