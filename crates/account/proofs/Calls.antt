@@ -1,9 +1,9 @@
 -- A call keeps the law once its ground and its answer are known.
-use Rattle.std.proofs.Common.{◌≡◌, ℕ, suc, ◌+◌, ◌<◌, ◌≤◌, Bool, true, false, cond, ltb, leb, List, length, take, Some, None, sum, Option, sym, refl, ap, ◌∙◌, subst, arith}
+use Rattle.std.proofs.Common.{◌≡◌, ℕ, ◌<◌, ◌≤◌, List, length, take, Some, None, sum, Option, sym, refl, ap, ◌∙◌, subst, arith}
 use Rattle.tariff.specs.Meaning.{Meaning, Lawful}
 use Rattle.tariff.specs.Steps.{Step}
 use Rattle.account.specs.History.{Reply, refused, Accepted, Answered, Kept}
-use Rattle.account.specs.Ledger.{Opening, LawfulOpening, Ledger, Request, month_in, closed_days, ground, done, unless_refused, after}
+use Rattle.account.specs.Ledger.{Opening, LawfulOpening, Ledger, Request, month_in, closed_days, ground, done, unless_refused}
 use Rattle.account.specs.Replies.{Stays, Keeps}
 use Rattle.account.specs.View.{lengths_of, opening_of, ledger_of}
 use Rattle.account.specs.declared.account.Account.{Account}

@@ -1,5 +1,5 @@
 -- What an account's table and calendar hold, as the ledger has it.
-use Rattle.std.proofs.Common.{◌≡◌, ℕ, zero, suc, ◌+◌, ◌-◌, ◌*◌, ◌<◌, ◌≤◌, Bool, true, false, ◌&&◌, eqb, leb, List, [], ◌∷◌, ◌++◌, map, length, get_or, take, drop, set, is_some, IfSome, Some, None, sum_by, sum, Option, sym, refl, ap, ◌∙◌, subst, inl, inr, le_of_suc-le-suc, not-suc-le-zero, mul-le-mul_right, arith, length-take, get_or-set_other, get_or-set_same}
+use Rattle.std.proofs.Common.{◌≡◌, ℕ, zero, suc, ◌+◌, ◌-◌, ◌<◌, ◌≤◌, true, ◌&&◌, eqb, leb, List, [], ◌∷◌, map, length, get_or, take, drop, set, is_some, IfSome, Some, None, sum, Option, sym, refl, ap, ◌∙◌, inl, inr, le_of_suc-le-suc, not-suc-le-zero, mul-le-mul_right, arith, length-take, get_or-set_other, get_or-set_same}
 use mathlib.Core.Path.{fun_ext}
 use Rattle.std.proofs.ByRecursion.{All-weaker, sum_by_le}
 use Rattle.std.proofs.lemmas.List.{length-map}
@@ -68,8 +68,8 @@ put_standing days day reading there = fun_ext (λ other.
       | inl same ↦
           ap (λ d. option_map figures_of (get_or (set days day reading) d None)) same
           ∙ ap (option_map figures_of) (get_or-set_same days day reading None there)
-          ∙ sym (cond-true _ _ _ (eq-eqb other day same))
-      | inr apart ↦ ap (option_map figures_of) (get_or-set_other days day other reading None apart) ∙ sym (cond-false _ _ _ (ne_eqb other day apart))
+          ∙ sym (cond-true _ _ _ (eq-eqb day other (sym same)))
+      | inr apart ↦ ap (option_map figures_of) (get_or-set_other days day other reading None apart) ∙ sym (cond-false _ _ _ (ne_eqb day other (λ e. apart (sym e))))
     ])
 
 -- the totals gathered from a month's part of the table are the month's in the ledger

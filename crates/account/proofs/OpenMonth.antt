@@ -1,5 +1,5 @@
 -- The open month of an account: its grounds, and its settlement.
-use Rattle.std.proofs.Common.{◌≡◌, ℕ, suc, ◌+◌, ◌-◌, ◌<◌, ◌≤◌, Bool, true, false, cond, leb, List, length, get_or, take, Some, None, sum, Option, sym, refl, ap, ◌∙◌, subst, arith}
+use Rattle.std.proofs.Common.{◌≡◌, ℕ, ◌+◌, ◌-◌, ◌<◌, ◌≤◌, Bool, true, false, cond, leb, List, length, get_or, take, Some, None, sum, Option, sym, ap, ◌∙◌, arith}
 use Rattle.std.proofs.lemmas.List.Sums.{sum_by_more}
 use Rattle.std.proofs.lemmas.Bool.{cond-true, cond-false, le-leb, lt-leb}
 use Rattle.std.specs.List.{range_with_len}
@@ -7,12 +7,11 @@ use Rattle.std.specs.Option.{option_map}
 use Rattle.tariff.specs.Meaning.{Meaning, Lawful}
 use Rattle.tariff.specs.Steps.{Step}
 use Rattle.settlement.specs.Limits.{prices_within}
-use Rattle.settlement.specs.Settling.{MonthPrices, Numbers, numbers}
-use Rattle.account.specs.Ledger.{Opening, Ledger, LawfulOpening, first_missing, month_ground, month_totals, month_numbers}
+use Rattle.settlement.specs.Settling.{MonthPrices, numbers}
+use Rattle.account.specs.Ledger.{Opening, Ledger, first_missing, month_ground, month_numbers}
 use Rattle.account.specs.Standing.{standing_in}
 use Rattle.account.specs.View.{lengths_of, opening_of, ledger_of}
 use Rattle.account.specs.declared.account.Account.{Account}
-use Rattle.account.specs.declared.fault.AccountFault.{AccountFault}
 use Rattle.account.specs.declared.fault.AccountFault.TheVariants.{AllClosed, Price, Missing}
 use Rattle.account.proofs.Calls.{opening_lawful}
 use Rattle.account.proofs.Complete.{open_totalled}

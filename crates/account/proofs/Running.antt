@@ -1,11 +1,11 @@
 -- Calls made one after the other make a history.
-use Rattle.std.proofs.Common.{◌≡◌, ℕ, ◌+◌, ◌<◌, List, [], ◌∷◌, ◌++◌, length, Some, vec_items, sym, refl, ap, ◌∙◌, subst, append_assoc, append-nil, arith}
+use Rattle.std.proofs.Common.{◌≡◌, ℕ, ◌+◌, List, [], ◌∷◌, ◌++◌, length, Some, vec_items, sym, refl, ap, ◌∙◌, subst, append_assoc, append-nil, arith}
 use Rattle.std.proofs.lemmas.List.{length_push}
 use Rattle.tariff.specs.Meaning.{Meaning, Lawful}
 use Rattle.tariff.specs.Steps.{Step}
 use Rattle.account.specs.Calls.{request_of, reply_of}
-use Rattle.account.specs.History.{Entry, Reply, History, opened, called, Answers, Kept, Upheld}
-use Rattle.account.specs.Ledger.{Opening, Ledger, Request, after, empty}
+use Rattle.account.specs.History.{Entry, Reply, History, opened, called, Kept}
+use Rattle.account.specs.Ledger.{Opening, Ledger, Request}
 use Rattle.account.specs.Replies.{Stays, Keeps, Opened}
 use Rattle.account.specs.Runs.{entries_of, Ran, Replays}
 use Rattle.account.specs.View.{lengths_of, opening_of, ledger_of}

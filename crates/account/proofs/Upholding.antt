@@ -44,7 +44,7 @@ module _ (o : Opening) (l : Ledger) (now : Sound o l) where
     sound = record {
       few_closed = now.few_closed;
       all_stand = λ k ge lt. elim (cases_eq k day) [
-        | inl same ↦ ap is_some (update_same eqb l.standing day reading k (eq-eqb k day same)) ∙ fits (omega arith)
+        | inl same ↦ ap is_some (update_same eqb l.standing day reading k (eq-eqb day k (sym same))) ∙ fits (omega arith)
         | inr apart ↦ ap is_some (update_apart l.standing day reading k apart) ∙ now.all_stand k ge lt
       ];
     };

@@ -1,9 +1,9 @@
 -- Histories of calls with their answers, and the law that every one of them keeps.
-use Rattle.std.specs.Prelude.{◌≡◌, ℕ, ◌+◌, ◌<◌, ◌≤◌, Bool, true, false, cond, List, [], ◌∷◌, ◌++◌, map, length, ℤ, pos, ◌+ℤ◌, ◌-ℤ◌, Some, None, Option, nat_lt}
+use Rattle.std.specs.Prelude.{◌≡◌, ℕ, ◌+◌, ◌<◌, ◌≤◌, cond, List, [], ◌∷◌, ◌++◌, map, length, ℤ, pos, ◌+ℤ◌, ◌-ℤ◌, Some, None, Option, nat_lt}
 use Rattle.std.specs.List.{range_with_len}
 use Rattle.settlement.specs.Boxes.{limit}
 use Rattle.settlement.specs.Rows.{Best, used_rows}
-use Rattle.settlement.specs.Settling.{MonthPrices, Numbers, smallest}
+use Rattle.settlement.specs.Settling.{Numbers, smallest}
 use Rattle.settlement.specs.Totals.{Figures}
 use Rattle.account.specs.Ledger.{Opening, LawfulOpening, OpenedAlike, Ledger, empty, closed_days, month_of_day, month_numbers, closed_numbers, net_in, Request, post, correct, strike, draft, close, show, ground, after, with_standing}
 use Rattle.account.specs.declared.fault.AccountFault.{AccountFault}

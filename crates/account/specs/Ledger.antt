@@ -1,5 +1,5 @@
 -- The ledger: the plain book that an account is held to. It is fed what the opening took and what each call is handed.
-use Rattle.std.specs.Prelude.{◌≡◌, ℕ, suc, ◌+◌, ◌-◌, ◌≤◌, Bool, true, false, cond, List, [], ◌∷◌, ◌++◌, map, length, take, ℤ, pos, is_some, Some, None, sum, Option, nat_eq, nat_le, nat_lt, slice_index, slice_index_or}
+use Rattle.std.specs.Prelude.{◌≡◌, ℕ, suc, ◌+◌, ◌-◌, ◌≤◌, cond, List, [], ◌∷◌, ◌++◌, map, length, take, ℤ, pos, is_some, Some, None, sum, Option, nat_eq, nat_le, nat_lt, slice_index, slice_index_or}
 use Rattle.std.specs.List.{range_with_len, AllByRecursion as All}
 use Rattle.std.specs.Option.{option_map}
 use Rattle.std.specs.Map.{update}

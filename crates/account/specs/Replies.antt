@@ -1,5 +1,5 @@
 -- What the code's answers say, and what a call leaves as it was.
-use Rattle.std.specs.Prelude.{◌≡◌, ℕ, ◌<◌, cond, List, [], length, ℤ, Some, None, Ok, Err, sum, Option, Result, nat_le}
+use Rattle.std.specs.Prelude.{◌≡◌, ℕ, ◌<◌, cond, List, [], length, ℤ, Some, None, Ok, Err, Option, Result, nat_le}
 use Rattle.tariff.specs.Meaning.{Meaning}
 use Rattle.tariff.specs.Steps.{Step}
 use Rattle.settlement.specs.Readings.{reading_ground}

@@ -1,5 +1,5 @@
 -- The readings that stand in a table of days.
-use Rattle.std.specs.Prelude.{ℕ, Bool, true, ◌&&◌, List, [], ◌∷◌, is_some, Some, None, Option, slice_index_or}
+use Rattle.std.specs.Prelude.{ℕ, Bool, true, ◌&&◌, List, [], ◌∷◌, is_some, None, Option, slice_index_or}
 use Rattle.std.specs.Option.{option_map}
 use Rattle.settlement.specs.Totals.{Figures, figures_of}
 use Rattle.settlement.specs.declared.reading.Reading.{Reading}

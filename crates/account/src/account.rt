@@ -8,12 +8,11 @@ use crate::day_table::DayTable;
 use crate::fault::AccountFault;
 use settlement::deposit_box::DepositBox;
 use settlement::prices::Prices;
-use tariff::supply::Supply;
 
 /// A customer's account: the supply, the box, the calendar, the readings of its days, and the prices of the months that
 /// are closed. Its type keeps that every day of a closed month is read.
 #[derive(Drop)]
-pub struct Account<S: Supply> {
+pub struct Account<S> {
     supply: S,
     deposit_box: DepositBox,
     calendar: Calendar,

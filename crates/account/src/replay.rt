@@ -9,7 +9,7 @@ use tariff::supply::Supply;
 
 /// An account after a list of calls, with the answer of each.
 #[derive(Drop)]
-pub struct Replayed<S: Supply> {
+pub struct Replayed<S> {
     pub account: Account<S>,
     pub answers: Vec<Answer>,
 }

@@ -1,4 +1,4 @@
-use Rattle.std.proofs.Common.{◌≡◌, List, take, vec_items, subst}
+use Rattle.std.proofs.Common.{List, vec_items, subst}
 use Rattle.std.proofs.lemmas.List.{take_more, take_all}
 use Rattle.account.specs.Runs.{Ran}
 use Rattle.account.specs.declared.call.Call.{Call}
@@ -9,7 +9,7 @@ pub loop-call-preserved : goal.loop-call-preserved
 loop-call-preserved g c =
     ran_more g.S.Supply.whole g.S.Tariff.tables c.args.account.now c.loop-call.account _ _ _ _ _ _ _ c.loop-call.invariant c.apply-answer.ensures
     (take_more c.args.calls.now c.loop-call.call-index _ c.loop-call-test.true)
-    c.in-ok-push.ensures.items
+    c.in_ok-push.ensures.items
 
 pub returns : goal.returns
 returns g c =

@@ -1,4 +1,4 @@
-use Rattle.std.proofs.Common.{◌≡◌, ◌<◌, length, sym, refl, ap, ◌∙◌, arith, w64, to_z, of_z, rules}
+use Rattle.std.proofs.Common.{◌≡◌, ◌<◌, length, refl, ap, ◌∙◌, arith, w64, to_z, of_z, rules}
 use Rattle.settlement.specs.Limits.{net_within}
 use Rattle.settlement.specs.Settling.{MonthPrices}
 use Rattle.account.specs.Ledger.{month_numbers, net_in}

@@ -1,4 +1,4 @@
-use Rattle.std.proofs.Common.{◌≡◌, ℕ, ◌<◌, true, length, None, sym, refl, ap, ◌∙◌, arith, w16, SFits, rules}
+use Rattle.std.proofs.Common.{◌≡◌, ℕ, ◌<◌, true, length, None, sym, refl, ap, ◌∙◌, arith, w16, SFits}
 use Rattle.std.proofs.lemmas.Int.{to_z-of_z}
 use Rattle.std.specs.Option.{option_map}
 use Rattle.settlement.specs.Limits.{prices_within}
@@ -23,8 +23,8 @@ returns-in-Err g c =
     let out = simp to_z-of_z at c.in-Err.ensures.1 in
     price_out (g.S.Supply.whole a.supply) (g.S.Tariff.tables a.supply) a (record { fuel = c.args.fuel; levy = c.args.levy; buy = c.args.buy }) (omega (arith, c.months.ensures)) out
 
-pub first-missing-requires : goal.first-missing-requires
-first-missing-requires g c =
+pub first_missing-requires : goal.first_missing-requires
+first_missing-requires g c =
     let a = c.args.self.now in
     let there : a.closed < a.calendar.months = omega (arith, c.months.ensures) in
     (month_place a.calendar a.closed c.start-start.result c.start-end.result there c.start-start.ensures c.start-end.ensures).0
@@ -35,7 +35,7 @@ returns-in-Some g c =
     let p : MonthPrices = record { fuel = c.args.fuel; levy = c.args.levy; buy = c.args.buy } in
     let fits : SFits w16 c.args.fuel = c.ranges.fuel in
     let within : prices_within c.args.fuel c.args.levy c.args.buy ≡ true = simp to_z-of_z at c.in-Ok.ensures.3 in
-    looked (g.S.Supply.whole a.supply) (g.S.Tariff.tables a.supply) a p (omega (arith, c.months.ensures)) c.start-start.result c.start-end.result c.first-missing.result within c.start-start.ensures c.start-end.ensures c.first-missing.ensures
+    looked (g.S.Supply.whole a.supply) (g.S.Tariff.tables a.supply) a p (omega (arith, c.months.ensures)) c.start-start.result c.start-end.result c.first_missing.result within c.start-start.ensures c.start-end.ensures c.first_missing.ensures
     ∙ ap (option_map Missing) c.in-Some.is
 
 pub unreachable-requires : goal.unreachable-requires
@@ -47,7 +47,7 @@ unreachable-requires g c =
     let fits : SFits w16 c.args.fuel = c.ranges.fuel in
     let within : prices_within c.args.fuel c.args.levy c.args.buy ≡ true = simp to_z-of_z at c.in-Ok.ensures.3 in
     let none : month_ground (opening_of m tables a) (ledger_of a) p ≡ None =
-    looked m tables a p (omega (arith, c.months.ensures)) c.start-start.result c.start-end.result c.first-missing.result within c.start-start.ensures c.start-end.ensures c.first-missing.ensures ∙ ap (option_map Missing) c.in-None.is in
+    looked m tables a p (omega (arith, c.months.ensures)) c.start-start.result c.start-end.result c.first_missing.result within c.start-start.ensures c.start-end.ensures c.first_missing.ensures ∙ ap (option_map Missing) c.in-None.is in
     let told = simp to_z-of_z at c.in-Ok.ensures.0 in
     let same : prices_of c.in-Ok.prices ≡ p = λ i. record { fuel = told i; levy = c.in-Ok.ensures.1 i; buy = c.in-Ok.ensures.2 i } in
     open_numbered m tables a p (g.met.S.Supply.bound a.supply) none
@@ -62,7 +62,7 @@ returns-in-Some-settled g c =
     let fits : SFits w16 c.args.fuel = c.ranges.fuel in
     let within : prices_within c.args.fuel c.args.levy c.args.buy ≡ true = simp to_z-of_z at c.in-Ok.ensures.3 in
     let none : month_ground (opening_of m tables a) (ledger_of a) p ≡ None =
-    looked m tables a p (omega (arith, c.months.ensures)) c.start-start.result c.start-end.result c.first-missing.result within c.start-start.ensures c.start-end.ensures c.first-missing.ensures ∙ ap (option_map Missing) c.in-None.is in
+    looked m tables a p (omega (arith, c.months.ensures)) c.start-start.result c.start-end.result c.first_missing.result within c.start-start.ensures c.start-end.ensures c.first_missing.ensures ∙ ap (option_map Missing) c.in-None.is in
     let told = simp to_z-of_z at c.in-Ok.ensures.0 in
     let same : prices_of c.in-Ok.prices ≡ p = λ i. record { fuel = told i; levy = c.in-Ok.ensures.1 i; buy = c.in-Ok.ensures.2 i } in
     let s = c.in-Some-settled.settlement in

@@ -1,4 +1,4 @@
-use Rattle.std.proofs.Common.{◌≡◌, ◌<◌, ◌≤◌, true, false, cond, ltb, leb, length, take, None, sum, sym, refl, ap, ◌∙◌, arith, rules}
+use Rattle.std.proofs.Common.{◌<◌, ◌≤◌, length, take, None, sum, sym, refl, ap, ◌∙◌, arith}
 use Rattle.std.proofs.lemmas.List.{take-set-le}
 use Rattle.std.proofs.lemmas.Bool.{cond-true, cond-false, le-leb, lt-leb, lt-ltb, le-ltb}
 use Rattle.account.specs.Ledger.{closed_days}
@@ -34,12 +34,12 @@ returns-then-day-start g c =
 pub put-requires : goal.put-requires
 put-requires g c = has_place c.args.self.now c.args.day (omega (arith, c.days.ensures))
 
-pub invariant-of-self-2 : goal.invariant-of-self-2
-invariant-of-self-2 g c =
+pub invariant_of-self-2 : goal.invariant_of-self-2
+invariant_of-self-2 g c =
     let a = c.args.self.now in
     let n = sum (take a.closed (lengths_of a.calendar)) in
     let kept = take-set-le n a.table.days c.args.day None (omega (arith, c.start.ensures)) in
-    (a.counted, (a.priced, (ap (λ days. all_standing (take n days)) c.put.ensures ∙ ap all_standing kept ∙ a.complete, tt)))
+    record { counted = a.counted; priced = a.priced; complete = ap (λ days. all_standing (take n days)) c.put.ensures ∙ ap all_standing kept ∙ a.complete }
 
 pub returns : goal.returns
 returns g c =

@@ -1,4 +1,4 @@
-use Rattle.std.proofs.Common.{◌≡◌, ◌<◌, ◌≤◌, length, get_or, take, ◌∙◌, arith, length-take, get_or-take}
+use Rattle.std.proofs.Common.{◌≡◌, ◌<◌, length, get_or, take, arith, length-take, get_or-take}
 use Rattle.account.proofs.Months.{in_month, past_month, past_all}
 use Rattle.account.proofs.calendar.Calendar.month_of.Goals as goal
 

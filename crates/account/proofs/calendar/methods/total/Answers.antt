@@ -8,7 +8,7 @@ loop-days-preserved c =
     let more = sum_by_more (λ x. x) c.args.lengths.now c.loop-days.days-index 0 c.loop-days-test.true in
     let small = c.loop-days.invariant.1 in
     let so_far = c.loop-days.invariant.0 in
-    let byte = c.type-inv.lengths c.loop-days.days-index in
+    let byte = c.type_inv.lengths c.loop-days.days-index in
     (omega arith, search rules)
 
 pub returns : goal.returns

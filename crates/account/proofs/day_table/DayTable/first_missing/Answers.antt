@@ -1,4 +1,4 @@
-use Rattle.std.proofs.Common.{sym, ◌∙◌, arith}
+use Rattle.std.proofs.Common.{sym, ◌∙◌}
 use Rattle.account.specs.Standing.{standing_in}
 use Rattle.account.proofs.Months.{missing_here, missing_later}
 use Rattle.account.proofs.day_table.DayTable.first_missing.Goals as goal
