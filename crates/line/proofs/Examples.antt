@@ -2,7 +2,6 @@
 use Rattle.std.proofs.Common.{◌≡◌, [], ◌∷◌, ◌++◌, length, pos, negsuc, codes, refl}
 use Rattle.std.specs.Fmt.{digits}
 use Rattle.line.specs.Lines.{line_bytes}
-use Rattle.line.specs.declared.line.Line.{Line}
 use Rattle.line.specs.declared.line.Outcome.TheVariants.{Done, Refused}
 
 pub opened : line_bytes (record { number = 1; letter = 79; outcome = Done (pos 0) }) ≡ codes "1 O ok 0" ++ (10 ∷ [])

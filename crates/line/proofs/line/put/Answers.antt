@@ -4,4 +4,4 @@ use Rattle.line.proofs.line.put.Goals as goal
 
 pub returns : goal.returns
 returns c =
-    record { place = refl; bytes = part_written c.args.out.now c.args.text.now c.copy-from-slice.new.self c.args.at _ refl c.copy-from-slice.ensures.after }
+    record { place = refl; bytes = part_written c.args.out.now c.args.text.now c.copy_from_slice.new.self c.args.at _ refl c.copy_from_slice.ensures.after }

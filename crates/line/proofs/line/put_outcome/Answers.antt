@@ -6,16 +6,16 @@ use Rattle.line.proofs.Lengths.{refused_is, refused_length}
 use Rattle.line.proofs.Written.{written_more}
 use Rattle.line.proofs.line.put_outcome.Goals as goal
 
-pub put-decimal-at-requires : goal.put-decimal-at-requires
-put-decimal-at-requires c =
+pub put_decimal-at-requires : goal.put_decimal-at-requires
+put_decimal-at-requires c =
     omega (arith, c.requires, refused_length c.args.outcome c.in-Refused.number c.in-Refused.place c.from.result c.in-Refused.place c.in-Refused.is c.from.ensures refl)
 
 pub put-at-requires-in-Refused-2 : goal.put-at-requires-in-Refused-2
 put-at-requires-in-Refused-2 c =
     omega (arith, c.requires, refused_length c.args.outcome c.in-Refused.number c.in-Refused.place c.from.result c.in-Refused.place c.in-Refused.is c.from.ensures refl)
 
-pub put-decimal-requires : goal.put-decimal-requires
-put-decimal-requires c =
+pub put_decimal-requires : goal.put_decimal-requires
+put_decimal-requires c =
     omega (arith, c.requires, refused_length c.args.outcome c.in-Refused.number c.in-Refused.place c.from.result c.from-in-Refused.result c.in-Refused.is c.from.ensures c.from-in-Refused.ensures)
 
 pub returns-in-Done : goal.returns-in-Done
@@ -29,7 +29,7 @@ returns-in-Done c =
     let wide : length (outcome_bytes c.args.outcome) ≡ 3 + length text = ap length bytes ∙ omega arith in
     record {
       place = omega arith;
-      bytes = written_more out at (codes "ok ") text c.put-at.ensures.bytes c.put-signed.ensures.bytes c.put-at.ensures.place (omega (arith, c.requires)) ∙ ap (written out at) (sym bytes);
+      bytes = written_more out at (codes "ok ") text c.put-at.ensures.bytes c.put_signed.ensures.bytes c.put-at.ensures.place (omega (arith, c.requires)) ∙ ap (written out at) (sym bytes);
     }
 
 pub returns-in-Refused : goal.returns-in-Refused
@@ -44,12 +44,12 @@ returns-in-Refused c =
     refused_is o c.in-Refused.number c.in-Refused.place number place c.in-Refused.is c.from.ensures c.from-in-Refused.ensures in
     let wide : length (outcome_bytes o) ≡ 4 + length (decimal number) + length (decimal place) =
     refused_length o c.in-Refused.number c.in-Refused.place number place c.in-Refused.is c.from.ensures c.from-in-Refused.ensures in
-    let two : c.put-decimal-at.new.out ≡ written out at head =
-    written_more out at (codes "no ") (decimal number) c.put-at-in-Refused.ensures.bytes c.put-decimal-at.ensures.bytes (omega arith) (omega (arith, c.requires)) in
+    let two : c.put_decimal-at.new.out ≡ written out at head =
+    written_more out at (codes "no ") (decimal number) c.put-at-in-Refused.ensures.bytes c.put_decimal-at.ensures.bytes (omega arith) (omega (arith, c.requires)) in
     let three : c.put-at-in-Refused-2.new.out ≡ written out at (head ++ codes " ") =
     written_more out at head (codes " ") two c.put-at-in-Refused-2.ensures.bytes (omega arith) (omega (arith, c.requires)) in
     let most : length (head ++ codes " ") ≡ 4 + length (decimal number) = length-append head (codes " ") ∙ omega arith in
-    let four : c.put-decimal.new.out ≡ written out at ((head ++ codes " ") ++ decimal place) =
-    written_more out at (head ++ codes " ") (decimal place) three c.put-decimal.ensures.bytes (omega arith) (omega (arith, c.requires)) in
+    let four : c.put_decimal.new.out ≡ written out at ((head ++ codes " ") ++ decimal place) =
+    written_more out at (head ++ codes " ") (decimal place) three c.put_decimal.ensures.bytes (omega arith) (omega (arith, c.requires)) in
     let same : (head ++ codes " ") ++ decimal place ≡ outcome_bytes o = append_assoc head (codes " ") (decimal place) ∙ append_assoc (codes "no ") (decimal number) (codes " " ++ decimal place) ∙ sym bytes in
     record { place = omega arith; bytes = four ∙ ap (written out at) same }

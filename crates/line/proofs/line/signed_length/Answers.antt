@@ -8,7 +8,7 @@ use Rattle.line.proofs.line.signed_length.Goals as goal
 pub returns-then-n-lt0 : goal.returns-then-n-lt0
 returns-then-n-lt0 c =
     let n = c.args.n in
-    let size = c.unsigned-abs.result in
-    let is : signed_decimal n ≡ 45 ∷ decimal size = below_zero n _ size (to_z-of_z w64 n c.ranges.n) c.if-n-lt0.true c.unsigned-abs.ensures.value in
+    let size = c.unsigned_abs.result in
+    let is : signed_decimal n ≡ 45 ∷ decimal size = below_zero n _ size (to_z-of_z w64 n c.ranges.n) c.if-n-lt0.true c.unsigned_abs.ensures.value in
     let few : length (decimal size) ≤ 19 = length-decimal-le 19 size (omega arith) (omega arith) (omega arith) in
     record { count = omega (arith, ap length is); bound = omega arith }

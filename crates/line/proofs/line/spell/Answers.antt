@@ -10,8 +10,8 @@ loop-rest-init c =
     let n = c.args.n in
     (omega arith, c.requires, omega arith, ap (λ l. decimal n ++ l) (drop_all (length part) part (omega arith)) ∙ append-nil (decimal n))
 
-pub overflow-sub-at : goal.overflow-sub-at
-overflow-sub-at c = omega (arith, decimal_nonempty c.loop-rest.rest (omega arith))
+pub overflow_sub-at : goal.overflow_sub-at
+overflow_sub-at c = omega (arith, decimal_nonempty c.loop-rest.rest (omega arith))
 
 pub bounds-part-at : goal.bounds-part-at
 bounds-part-at c = omega (arith, decimal_nonempty c.loop-rest.rest (omega arith))

@@ -9,5 +9,5 @@ returns c =
     let count : length (line_bytes line) ≡ length (decimal c.from.result) + 4 + length (outcome_bytes line.outcome) = line_length line c.from.result c.from.ensures in
     record {
       count = omega arith;
-      bound = λ few. omega (arith, count, c.digits.ensures.count, c.outcome-length.ensures.count, line_at_most line few (omega arith));
+      bound = λ few. omega (arith, count, c.digits.ensures.count, c.outcome_length.ensures.count, line_at_most line few (omega arith));
     }

@@ -4,14 +4,14 @@ use Rattle.line.proofs.Lengths.{line_length}
 use Rattle.line.proofs.Written.{written_more, written_front}
 use Rattle.line.proofs.line.Line.write.Goals as goal
 
-pub put-decimal-at-requires : goal.put-decimal-at-requires
-put-decimal-at-requires c = omega (arith, line_length c.args.self.now c.from.result c.from.ensures)
+pub put_decimal-at-requires : goal.put_decimal-at-requires
+put_decimal-at-requires c = omega (arith, line_length c.args.self.now c.from.result c.from.ensures)
 
 pub put-at-requires : goal.put-at-requires
 put-at-requires c = omega (arith, line_length c.args.self.now c.from.result c.from.ensures)
 
-pub put-outcome-at-requires : goal.put-outcome-at-requires
-put-outcome-at-requires c = omega (arith, line_length c.args.self.now c.from.result c.from.ensures)
+pub put_outcome-at-requires : goal.put_outcome-at-requires
+put_outcome-at-requires c = omega (arith, line_length c.args.self.now c.from.result c.from.ensures)
 
 pub put-requires : goal.put-requires
 put-requires c = omega (arith, line_length c.args.self.now c.from.result c.from.ensures)
@@ -25,10 +25,10 @@ returns c =
     let head = decimal c.from.result in
     let count : length (line_bytes line) ≡ length head + 4 + length outcome = line_length line c.from.result c.from.ensures in
     let two : c.put-at.new.out ≡ written out 0 (head ++ middle) =
-    written_more out 0 head middle c.put-decimal-at.ensures.bytes c.put-at.ensures.bytes (omega arith) (omega arith) in
+    written_more out 0 head middle c.put_decimal-at.ensures.bytes c.put-at.ensures.bytes (omega arith) (omega arith) in
     let more : length (head ++ middle) ≡ length head + 3 = length-append head middle in
-    let three : c.put-outcome-at.new.out ≡ written out 0 ((head ++ middle) ++ outcome) =
-    written_more out 0 (head ++ middle) outcome two c.put-outcome-at.ensures.bytes (omega arith) (omega arith) in
+    let three : c.put_outcome-at.new.out ≡ written out 0 ((head ++ middle) ++ outcome) =
+    written_more out 0 (head ++ middle) outcome two c.put_outcome-at.ensures.bytes (omega arith) (omega arith) in
     let most : length ((head ++ middle) ++ outcome) ≡ length head + 3 + length outcome = length-append (head ++ middle) outcome ∙ omega arith in
     let four : c.put.new.out ≡ written out 0 (((head ++ middle) ++ outcome) ++ (10 ∷ [])) =
     written_more out 0 ((head ++ middle) ++ outcome) (10 ∷ []) three c.put.ensures.bytes (omega arith) (omega arith) in
