@@ -8,6 +8,7 @@ ghost use Rattle.fuel.specs.Words.{area_name, reason_of, inputs_line, price_line
 use anyhow::anyhow;
 use std::alloc::{AllocError, Global};
 use std::env;
+use std::process::ExitCode;
 use tariff::fuel::{Area, FuelFault, fuel_price};
 
 const USAGE: &str =
@@ -57,7 +58,7 @@ fn price_line(heap: Global, average: u32, price: i16) -> Result<String, AllocErr
 
 fn run(rt: &HostRuntime, words: &[String]) -> anyhow::Result<()> {
     let [_, area, a, b, c] = words else {
-        return Err(USAGE.into());
+        return Err(anyhow!(USAGE));
     };
     let area = number(rt.alloc(), area.as_str())?;
     let a = number(rt.alloc(), a.as_str())?;
@@ -77,13 +78,13 @@ fn run(rt: &HostRuntime, words: &[String]) -> anyhow::Result<()> {
     }
 }
 
-fn main(rt: HostRuntime) -> anyhow::Result<()> {
+fn main(rt: HostRuntime) -> anyhow::Result<ExitCode> {
     let words: Vec<String> = env::args(&rt)?.collect(rt.alloc())?;
     match run(&rt, &words) {
-        Ok(()) => Ok(()),
+        Ok(()) => Ok(ExitCode::SUCCESS),
         Err(wrong) => {
             eprintln!(rt; "fuel: {wrong}")?;
-            Err(wrong)
+            Ok(ExitCode::FAILURE)
         }
     }
 }

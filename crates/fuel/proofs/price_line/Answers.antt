@@ -1,4 +1,4 @@
-use Rattle.std.proofs.Common.{w16, SFits, rules}
+use Rattle.std.proofs.Common.{w16, SFits}
 use Rattle.std.proofs.lemmas.Int.{to_z-of_z}
 use Rattle.fuel.proofs.price_line.Goals as goal
 
