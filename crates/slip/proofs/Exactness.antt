@@ -1,5 +1,5 @@
 -- Reading and the format are each other's inverse.
-use Rattle.std.proofs.Common.{◌≡◌, ℕ, zero, suc, ◌+◌, ◌-◌, ◌*◌, ◌/◌, ◌%◌, ◌<◌, ◌≤◌, Bool, true, false, cond, ◌&&◌, eqb, ltb, leb, List, [], ◌∷◌, ◌++◌, map, length, get_or, replicate, ℤ, pos, negsuc, Ok, Err, Result, sym, refl, ap, ◌∙◌, subst, append_assoc, arith}
+use Rattle.std.proofs.Common.{◌≡◌, ℕ, ◌+◌, ◌-◌, ◌*◌, ◌%◌, ◌≤◌, Bool, true, false, cond, ◌&&◌, eqb, ltb, leb, List, [], ◌∷◌, ◌++◌, map, length, get_or, replicate, ℤ, pos, negsuc, Ok, Err, Result, sym, refl, ap, ◌∙◌, subst, append_assoc, arith}
 use Rattle.std.specs.List.{AllByRecursion as All}
 use Rattle.std.proofs.lemmas.Nat.{div-add-mod'}
 use Rattle.std.proofs.lemmas.List.{length-map}
@@ -9,10 +9,9 @@ use Rattle.settlement.specs.Totals.{Figures}
 use Rattle.slip.specs.Exact.{One, Two, SignedTwo, FortyEight, OpeningFits, EntryFits, PricesFit, Fits, Exact}
 use Rattle.slip.specs.Format.{Slip, Opening, opening, post, correct, strike, close, two_bytes, map_byte, map_bytes, standing_bytes, packed, entry_bytes, opening_bytes, complement, slip_bytes}
 use Rattle.slip.specs.Reading.{Read, on, byte, number, bytes, bits, all_bits, standing, figures, rest_mark, entry, signed, closing, prices, months, opened, posted, corrected, read, unplaced, reads_as}
-use Rattle.slip.specs.declared.fault.SlipFault.{SlipFault}
 use Rattle.slip.specs.declared.fault.SlipFault.TheVariants.{Rest, Map, Months, Letter}
 use Rattle.slip.proofs.MapBits.{map_bits, map_of_bits, bits_count, map_byte_bits, map_byte_of_bits, three_stand}
-use Rattle.slip.proofs.Parts.{Said, said_on, said_as, on_reads, Bytes, stands, byte_said, number_reads, number_said, bytes_reads, bytes_said, standing_reads, standing_said}
+use Rattle.slip.proofs.Parts.{Said, said_on, said_as, Bytes, stands, byte_said, number_said, bytes_reads, bytes_said, standing_reads, standing_said}
 
 figures_reads : (ns : List ℕ) (place : ℕ) (rest : List ℕ) → length ns ≡ 48 → figures place (packed 6 ns ++ rest) ≡ Ok (ns, place + 6 + length (standing_bytes ns), rest)
 figures_reads ns place rest whole =

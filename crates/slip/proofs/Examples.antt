@@ -1,6 +1,6 @@
 -- Slips in bytes, and bytes as slips.
-use Rattle.std.proofs.Common.{◌≡◌, ℕ, Bool, true, false, List, [], ◌∷◌, ◌++◌, replicate, pos, negsuc, Ok, Err, refl}
-use Rattle.slip.specs.Format.{Slip, opening, post, correct, strike, close, slip_bytes}
+use Rattle.std.proofs.Common.{◌≡◌, ℕ, true, List, [], ◌∷◌, ◌++◌, replicate, negsuc, Ok, Err, refl}
+use Rattle.slip.specs.Format.{Slip, opening, post, strike, close, slip_bytes}
 use Rattle.slip.specs.Reading.{read}
 use Rattle.slip.specs.declared.fault.SlipFault.TheVariants.{Empty, Letter, Short, Map, Zero, Rest, Months}
 

@@ -1,5 +1,5 @@
 -- The format of slips: what each one is in bytes.
-use Rattle.std.specs.Prelude.{ℕ, zero, suc, ◌+◌, ◌-◌, ◌/◌, ◌%◌, Bool, cond, List, [], ◌∷◌, ◌++◌, length, take, drop, ℤ, pos, negsuc, codes, ◌==◌}
+use Rattle.std.specs.Prelude.{ℕ, zero, suc, ◌+◌, ◌-◌, ◌/◌, ◌%◌, cond, List, [], ◌∷◌, ◌++◌, length, take, drop, ℤ, pos, negsuc, codes, ◌==◌}
 use Rattle.settlement.specs.Settling.{MonthPrices}
 use Rattle.settlement.specs.Totals.{Figures}
 

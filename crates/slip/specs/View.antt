@@ -1,7 +1,5 @@
 -- What the code's slips and calls stand for.
-use Rattle.std.specs.Prelude.{ℕ, List}
 use Rattle.slip.specs.Format.{Slip, Opening, opening, post, correct, strike, close}
-use Rattle.slip.specs.declared.slip.Entry.{Entry}
 use Rattle.slip.specs.declared.slip.Opening.{Opening as Handed}
 use Rattle.slip.specs.declared.slip.Slip.{Slip as ReadSlip}
 use Rattle.slip.specs.declared.slip.Slip.TheVariants as read

@@ -1,4 +1,4 @@
-use Rattle.std.proofs.Common.{◌≡◌, ℕ, zero, suc, ◌+◌, ◌-◌, ◌*◌, ◌≤◌, Bool, true, false, cond, eqb, List, [], ◌∷◌, length, get_or, take, drop, Ok, Err, sym, refl, ap, ◌∙◌, arith, rules}
+use Rattle.std.proofs.Common.{◌≡◌, ℕ, zero, suc, ◌+◌, ◌*◌, ◌≤◌, Bool, eqb, List, [], ◌∷◌, length, get_or, drop, Ok, Err, sym, refl, ap, ◌∙◌, arith}
 use Rattle.std.proofs.lemmas.List.{take_rest}
 use Rattle.std.proofs.lemmas.Result.{err_from_is_err_and}
 use Rattle.std.proofs.lemmas.Bool.Decides.{nat_tests}
@@ -47,29 +47,29 @@ module _ (kind : Kind) (bs rest : List ℕ) (three : 3 ≤ length bs) (right : g
   both_read : (used : List ℕ) (place : ℕ) (more surplus : List ℕ) (end : ℕ) (left : List ℕ) → Ok (used, place, more) ≡ figures 4 rest → Ok (surplus, end, left) ≡ figures place more → Ok (kind day mark used surplus, left) ≡ unplaced (entry kind bs)
   both_read used place more surplus end left e f = sym (ap unplaced (used-read used place more e ∙ ap (λ r. on r (λ surplus place bs. Ok (kind day mark used surplus, place, bs))) (sym f)))
 
-pub returns-in-err-used : goal.returns-in-err-used
-returns-in-err-used c kind =
+pub returns-in_err-used : goal.returns-in_err-used
+returns-in_err-used c kind =
     let bs = c.args.bytes.now in
     let three : 3 ≤ length bs = grind (arith, nat_tests) in
     let right : get_or bs 2 0 ≤ 1 = grind (arith, nat_tests) in
-    let p = err_from_is_err_and c.from-residual.result c.from-residual.ensures.1 in
-    rw (p.1, p.2) (used-fault kind bs _ three right (take_rest bs 3) _ c.in-err-used.ensures.answer)
+    let p = err_from_is_err_and c.from_residual.result c.from_residual.ensures.1 in
+    rw (p.1, p.2) (used-fault kind bs _ three right (take_rest bs 3) _ c.in_err-used.ensures.answer)
 
-pub returns-in-err-surplus : goal.returns-in-err-surplus
-returns-in-err-surplus c kind =
+pub returns-in_err-surplus : goal.returns-in_err-surplus
+returns-in_err-surplus c kind =
     let bs = c.args.bytes.now in
     let three : 3 ≤ length bs = grind (arith, nat_tests) in
     let right : get_or bs 2 0 ≤ 1 = grind (arith, nat_tests) in
-    let used = c.in-ok-used.used in
-    let p = err_from_is_err_and c.from-residual-in-err-surplus.result c.from-residual-in-err-surplus.ensures.1 in
-    rw (p.1, p.2) (surplus-fault kind bs _ three right (take_rest bs 3) used.figures used.place used.rest.now _ c.in-ok-used.ensures.answer c.in-err-surplus.ensures.answer)
+    let used = c.in_ok-used.used in
+    let p = err_from_is_err_and c.from_residual-in_err-surplus.result c.from_residual-in_err-surplus.ensures.1 in
+    rw (p.1, p.2) (surplus-fault kind bs _ three right (take_rest bs 3) used.figures used.place used.rest.now _ c.in_ok-used.ensures.answer c.in_err-surplus.ensures.answer)
 
 pub returns : goal.returns
 returns c kind =
     let bs = c.args.bytes.now in
     let three : 3 ≤ length bs = grind (arith, nat_tests) in
     let right : get_or bs 2 0 ≤ 1 = grind (arith, nat_tests) in
-    let used = c.in-ok-used.used in
-    let surplus = c.in-ok-surplus.surplus in
+    let used = c.in_ok-used.used in
+    let surplus = c.in_ok-surplus.surplus in
     rw (c.from.ensures, c.from-2.ensures)
-    (both_read kind bs _ three right (take_rest bs 3) used.figures used.place used.rest.now surplus.figures surplus.place surplus.rest.now c.in-ok-used.ensures.answer c.in-ok-surplus.ensures.answer)
+    (both_read kind bs _ three right (take_rest bs 3) used.figures used.place used.rest.now surplus.figures surplus.place surplus.rest.now c.in_ok-used.ensures.answer c.in_ok-surplus.ensures.answer)

@@ -1,9 +1,8 @@
-use Rattle.std.proofs.Common.{◌≡◌, ℕ, ◌+◌, ◌-◌, ◌*◌, ◌<◌, ◌≤◌, Bool, true, false, cond, eqb, List, [], ◌∷◌, ◌++◌, length, get_or, take, drop, set, Ok, Err, Result, sym, refl, ap, ◌∙◌, subst, append-nil, arith, length-drop, length-set, take_all, rules}
+use Rattle.std.proofs.Common.{◌≡◌, ℕ, ◌+◌, ◌-◌, ◌<◌, ◌≤◌, Bool, false, List, [], ◌∷◌, length, get_or, take, drop, set, Ok, Err, sym, refl, ap, ◌∙◌, append-nil, arith, length-set, take_all}
 use Rattle.std.proofs.lemmas.List.{take_rest, drop_more, take_more_set, drop_all}
 use Rattle.std.proofs.lemmas.Result.{err_from_is_err_and}
 use Rattle.std.proofs.lemmas.Bool.Decides.{nat_tests}
-use Rattle.slip.specs.Answers.{seen, figures_read}
-use Rattle.slip.specs.Reading.{Read, on, bytes, all_bits, figure, figures, standing}
+use Rattle.slip.specs.Reading.{Read, all_bits, figure, figures, standing}
 use Rattle.slip.specs.declared.fault.SlipFault.{SlipFault}
 use Rattle.slip.proofs.Parts.{front, front_none, front_more, front_fault}
 use Rattle.slip.proofs.reader.read_figures.Goals as goal
@@ -40,31 +39,31 @@ done : (all : Read (List ℕ)) (figs : List ℕ) (bits : List Bool) (i place : �
 done all figs bits i place bs b f inv =
     inv ∙ ap (λ l. front l (standing (drop i bits) place bs)) (take_all i figs f) ∙ ap (λ l. front figs (standing l place bs)) (drop_all i bits b) ∙ ap (λ l. Ok (l, place, bs)) (append-nil figs)
 
-pub loop-half-hour-init : goal.loop-half-hour-init
-loop-half-hour-init c =
+pub loop-half_hour-init : goal.loop-half_hour-init
+loop-half_hour-init c =
     let bs = c.args.bytes.now in
     let whole : take (length bs - 6) (drop 6 bs) ≡ drop 6 bs = take_rest bs 6 in
     (omega arith, refl, omega arith, start (six bs) (c.args.place + 6) (drop 6 bs) _ whole)
 
-pub returns-in-err-figure : goal.returns-in-err-figure
-returns-in-err-figure c =
+pub returns-in_err-figure : goal.returns-in_err-figure
+returns-in_err-figure c =
     let bs = c.args.bytes.now in
-    let loop = c.loop-half-hour in
-    let i = loop.half-hour in
-    let taken : i < 48 = c.loop-half-hour-test.true in
+    let loop = c.loop-half_hour in
+    let i = loop.half_hour in
+    let taken : i < 48 = c.loop-half_hour-test.true in
     let enough : 6 ≤ length bs = grind (arith, nat_tests) in
-    let p = err_from_is_err_and c.from-residual.result c.from-residual.ensures.1 in
-    rw (p.1, p.2) (record { near = tt; answer = sym (six_read c.args.place bs enough ∙ fault-is (standing (all_bits (six bs)) (c.args.place + 6) (drop 6 bs)) loop.figures (all_bits (six bs)) c.stands.result i loop.at loop.rest.now taken (omega arith) loop.invariant.3 c.stands.ensures _ c.in-err-figure.ensures.answer) })
+    let p = err_from_is_err_and c.from_residual.result c.from_residual.ensures.1 in
+    rw (p.1, p.2) (record { near = tt; answer = sym (six_read c.args.place bs enough ∙ fault-is (standing (all_bits (six bs)) (c.args.place + 6) (drop 6 bs)) loop.figures (all_bits (six bs)) c.stands.result i loop.at loop.rest.now taken (omega arith) loop.invariant.3 c.stands.ensures _ c.in_err-figure.ensures.answer) })
 
-pub loop-half-hour-preserved : goal.loop-half-hour-preserved
-loop-half-hour-preserved c =
+pub loop-half_hour-preserved : goal.loop-half_hour-preserved
+loop-half_hour-preserved c =
     let bs = c.args.bytes.now in
-    let loop = c.loop-half-hour in
-    let i = loop.half-hour in
-    let taken : i < 48 = c.loop-half-hour-test.true in
-    let f = c.in-ok-figure.figure in
-    let told = c.in-ok-figure.ensures.answer in
-    let close : f.place ≤ loop.at + 2 = c.in-ok-figure.ensures.near in (
+    let loop = c.loop-half_hour in
+    let i = loop.half_hour in
+    let taken : i < 48 = c.loop-half_hour-test.true in
+    let f = c.in_ok-figure.figure in
+    let told = c.in_ok-figure.ensures.answer in
+    let close : f.place ≤ loop.at + 2 = c.in_ok-figure.ensures.near in (
       omega arith,
       simp length-set loop.invariant.1,
       omega arith,
@@ -74,7 +73,7 @@ loop-half-hour-preserved c =
 pub returns : goal.returns
 returns c =
     let bs = c.args.bytes.now in
-    let loop = c.loop-half-hour in
-    let left : 48 ≤ loop.half-hour = omega arith in
+    let loop = c.loop-half_hour in
+    let left : 48 ≤ loop.half_hour = omega arith in
     let enough : 6 ≤ length bs = grind (arith, nat_tests) in
-    record { near = omega arith; answer = sym (six_read c.args.place bs enough ∙ done (standing (all_bits (six bs)) (c.args.place + 6) (drop 6 bs)) loop.figures (all_bits (six bs)) loop.half-hour loop.at loop.rest.now left (omega arith) loop.invariant.3) }
+    record { near = omega arith; answer = sym (six_read c.args.place bs enough ∙ done (standing (all_bits (six bs)) (c.args.place + 6) (drop 6 bs)) loop.figures (all_bits (six bs)) loop.half_hour loop.at loop.rest.now left (omega arith) loop.invariant.3) }

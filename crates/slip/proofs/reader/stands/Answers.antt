@@ -1,4 +1,4 @@
-use Rattle.std.proofs.Common.{◌≡◌, ℕ, zero, suc, ◌+◌, ◌-◌, ◌*◌, ◌/◌, ◌%◌, ◌^◌, ◌<◌, true, false, eqb, List, [], ◌∷◌, ◌++◌, length, get_or, sym, refl, ap, ◌∙◌, arith}
+use Rattle.std.proofs.Common.{◌≡◌, ℕ, zero, suc, ◌+◌, ◌-◌, ◌*◌, ◌/◌, ◌%◌, ◌^◌, ◌<◌, false, eqb, List, [], ◌∷◌, ◌++◌, length, get_or, sym, refl, ap, ◌∙◌, arith}
 use lib.Bits.{bit_and}
 use Rattle.std.proofs.lemmas.Nat.{and_mask, div-add-mod'}
 use Rattle.std.proofs.lemmas.List.{get_or_append_left, get_or-append-add}
@@ -27,7 +27,7 @@ all_bits_at (m ∷ map) (suc byte) place there lt =
 
 pub returns : goal.returns
 returns c =
-    let h = c.args.half-hour in
+    let h = c.args.half_hour in
     let map = c.args.map.now in
     let byte = get_or map (h / 8) 0 in
     let low : bit_and (byte / 2 ^ (7 - h % 8)) 1 ≡ byte / 2 ^ (7 - h % 8) % 2 = and_mask (byte / 2 ^ (7 - h % 8)) 1 in

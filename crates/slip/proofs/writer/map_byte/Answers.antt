@@ -5,8 +5,8 @@ use Rattle.slip.specs.Format.{map_byte}
 use Rattle.slip.proofs.writer.map_byte.Goals as goal
 use Rattle.slip.proofs.writer.map_byte.Goals.{then-figure-ne0, else-figure-ne0}
 
-pub overflow-add-byte : goal.overflow-add-byte
-overflow-add-byte c = omega arith
+pub overflow_add-byte : goal.overflow_add-byte
+overflow_add-byte c = omega arith
 
 pub loop-figure-preserved : goal.loop-figure-preserved
 loop-figure-preserved c =

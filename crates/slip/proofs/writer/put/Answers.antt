@@ -8,6 +8,6 @@ pub returns : goal.returns
 returns c =
     record {
       place = refl;
-      bytes = part_written c.args.out.now c.args.text.now c.copy-from-slice.new.self c.args.at _ refl c.copy-from-slice.ensures.after;
-      fits = All-from_get_or One c.args.text.now 0 (λ i lt. (c.type-inv.text i).fits);
+      bytes = part_written c.args.out.now c.args.text.now c.copy_from_slice.new.self c.args.at _ refl c.copy_from_slice.ensures.after;
+      fits = All-from_get_or One c.args.text.now 0 (λ i lt. (c.type_inv.text i).fits);
     }

@@ -9,5 +9,5 @@ returns c =
     let all : length (packed 6 ns) ≡ 6 + length (standing_bytes ns) = length-append (map_bytes 6 ns) (standing_bytes ns) in
     record {
       place = omega arith;
-      bytes = written_more c.args.out.now c.args.at (map_bytes 6 ns) (standing_bytes ns) c.put-map-at.ensures.bytes c.put-standing.ensures.bytes c.put-map-at.ensures.place (omega (arith, c.requires.1));
+      bytes = written_more c.args.out.now c.args.at (map_bytes 6 ns) (standing_bytes ns) c.put_map-at.ensures.bytes c.put_standing.ensures.bytes c.put_map-at.ensures.place (omega (arith, c.requires.1));
     }

@@ -14,9 +14,9 @@ loop-byte-preserved c =
     let out = c.args.out.now in
     let k = c.loop-byte.byte in
     let eight : 8 * k + 8 - 8 * k ≡ 8 = omega arith in
-    let own : c.map-byte.result ≡ map_byte 128 (take 8 (drop (8 * k) ns)) = c.map-byte.ensures ∙ ap (λ n. map_byte 128 (take n (drop (8 * k) ns))) eight in
+    let own : c.map_byte.result ≡ map_byte 128 (take 8 (drop (8 * k) ns)) = c.map_byte.ensures ∙ ap (λ n. map_byte 128 (take n (drop (8 * k) ns))) eight in
     let many : length (map_bytes k ns) ≡ k = length_map_bytes k ns in (
       omega arith,
-      written_more out c.args.start (map_bytes k ns) (c.map-byte.result ∷ []) c.loop-byte.invariant.1 c.put-at.ensures.bytes (omega arith) (omega (arith, c.requires.1))
+      written_more out c.args.start (map_bytes k ns) (c.map_byte.result ∷ []) c.loop-byte.invariant.1 c.put-at.ensures.bytes (omega arith) (omega (arith, c.requires.1))
           ∙ ap (written out c.args.start) (ap (λ b. map_bytes k ns ++ (b ∷ [])) own ∙ sym (map_bytes_more k ns)),
     )

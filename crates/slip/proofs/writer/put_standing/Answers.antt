@@ -10,8 +10,8 @@ use Rattle.slip.proofs.writer.put_standing.Goals.{then-figure-ne0, else-figure-n
 pub loop-figure-init : goal.loop-figure-init
 loop-figure-init c = (omega arith, written_none c.args.out.now c.args.start (omega (arith, c.requires)))
 
-pub put-number-at-requires : goal.put-number-at-requires
-put-number-at-requires c =
+pub put_number-at-requires : goal.put_number-at-requires
+put_number-at-requires c =
     let ns = c.args.figures.now in
     let i = c.loop-figure.figure-index in
     let two : length (own_bytes (get_or ns i 0)) ≡ 2 = ap length (own_some (get_or ns i 0) c.if-figure-ne0.true) in
@@ -33,7 +33,7 @@ loop-figure-preserved c =
           let own : own_bytes n ≡ two_bytes n = own_some n w.if-figure-ne0.true in
           let two : length (own_bytes n) ≡ 2 = ap length own in (
             omega (arith, w.at-is),
-            written_more out start (standing_bytes (take i ns)) (two_bytes n) c.loop-figure.invariant.1 (w.out-is ∙ w.put-number-at.ensures.bytes) c.loop-figure.invariant.0 (omega (arith, c.requires)) ∙ ap (written out start) (sym (more ∙ ap (λ l. standing_bytes (take i ns) ++ l) own)),
+            written_more out start (standing_bytes (take i ns)) (two_bytes n) c.loop-figure.invariant.1 (w.out-is ∙ w.put_number-at.ensures.bytes) c.loop-figure.invariant.0 (omega (arith, c.requires)) ∙ ap (written out start) (sym (more ∙ ap (λ l. standing_bytes (take i ns) ++ l) own)),
           )
       | else-figure-ne0 w ↦
           let own = own_none n w.if-figure-ne0.false in

@@ -8,8 +8,8 @@ use Rattle.slip.proofs.Grounds.{no_ground, buffer_ground, whole_lists, mark_is, 
 use Rattle.line.proofs.Written.{written_more, written_front}
 use Rattle.slip.proofs.writer.write_entry.Goals as goal
 
-pub returns-then-out-count-standing : goal.returns-then-out-count-standing
-returns-then-out-count-standing c =
+pub returns-then-out-count_standing : goal.returns-then-out-count_standing
+returns-then-out-count_standing c =
     let used = c.args.used.now in
     let surplus = c.args.surplus.now in
     let f = handed c.args.rest used surplus in
@@ -31,21 +31,21 @@ returns c =
     let other : length (packed 6 surplus) ≡ 6 + length (standing_bytes surplus) = packed_length surplus in
     let mark : List ℕ = cond c.args.rest 1 0 ∷ [] in
     let head : List ℕ = letter ∷ (two_bytes day ++ mark) in
-    let number : c.put-number-at.new.out ≡ written out 0 (letter ∷ two_bytes day) =
-    written_more out 0 (letter ∷ []) (two_bytes day) c.put-at.ensures.bytes c.put-number-at.ensures.bytes c.put-at.ensures.place (omega arith) in
+    let number : c.put_number-at.new.out ≡ written out 0 (letter ∷ two_bytes day) =
+    written_more out 0 (letter ∷ []) (two_bytes day) c.put-at.ensures.bytes c.put_number-at.ensures.bytes c.put-at.ensures.place (omega arith) in
     let front : c.put-at-2.new.out ≡ written out 0 head =
-    written_more out 0 (letter ∷ two_bytes day) mark number (c.put-at-2.ensures.bytes ∙ ap (λ b. written c.put-number-at.new.out c.put-number-at.result (b ∷ [])) (c.from.ensures ∙ mark_is c.args.rest)) (omega arith) (omega arith) in
-    let most : c.put-figures-at.new.out ≡ written out 0 (head ++ packed 6 used) =
-    written_more out 0 head (packed 6 used) front c.put-figures-at.ensures.bytes (omega arith) (omega arith) in
+    written_more out 0 (letter ∷ two_bytes day) mark number (c.put-at-2.ensures.bytes ∙ ap (λ b. written c.put_number-at.new.out c.put_number-at.result (b ∷ [])) (c.from.ensures ∙ mark_is c.args.rest)) (omega arith) (omega arith) in
+    let most : c.put_figures-at.new.out ≡ written out 0 (head ++ packed 6 used) =
+    written_more out 0 head (packed 6 used) front c.put_figures-at.ensures.bytes (omega arith) (omega arith) in
     let so_far : length (head ++ packed 6 used) ≡ 4 + length (packed 6 used) = length-append head (packed 6 used) in
-    let all : c.put-figures.new.out ≡ written out 0 (letter ∷ entry_bytes day f) =
-    written_more out 0 (head ++ packed 6 used) (packed 6 surplus) most c.put-figures.ensures.bytes (omega arith) (omega arith) in
-    let behind : c.put-figures.result ≡ length (letter ∷ entry_bytes day f) = omega arith in
+    let all : c.put_figures.new.out ≡ written out 0 (letter ∷ entry_bytes day f) =
+    written_more out 0 (head ++ packed 6 used) (packed 6 surplus) most c.put_figures.ensures.bytes (omega arith) (omega arith) in
+    let behind : c.put_figures.result ≡ length (letter ∷ entry_bytes day f) = omega arith in
     record {
       put = (no_ground (post day f) (length out) refl whole (omega arith), behind, written_front out (letter ∷ entry_bytes day f) all behind);
       fits = record {
         day_fits = omega arith;
-        used = (omega arith, All-from_get_or Two used 0 (λ i lt. (c.type-inv.used i).fits));
-        surplus = (omega arith, All-from_get_or Two surplus 0 (λ i lt. (c.type-inv.surplus i).fits));
+        used = (omega arith, All-from_get_or Two used 0 (λ i lt. (c.type_inv.used i).fits));
+        surplus = (omega arith, All-from_get_or Two surplus 0 (λ i lt. (c.type_inv.surplus i).fits));
       };
     }

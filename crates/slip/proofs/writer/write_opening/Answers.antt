@@ -11,8 +11,8 @@ returns c =
     let out = c.args.out.now in
     let o = opening_of c.args.opening.now in
     let head : List ℕ = 79 ∷ o.tariff ∷ o.capacity ∷ o.percent ∷ o.letter ∷ [] in
-    let number : c.put-number-at.new.out ≡ written out 0 (head ++ two_bytes o.first) =
-    written_more out 0 head (two_bytes o.first) c.put-at.ensures.bytes c.put-number-at.ensures.bytes c.put-at.ensures.place (omega arith) in
+    let number : c.put_number-at.new.out ≡ written out 0 (head ++ two_bytes o.first) =
+    written_more out 0 head (two_bytes o.first) c.put-at.ensures.bytes c.put_number-at.ensures.bytes c.put-at.ensures.place (omega arith) in
     let front : c.put-at-2.new.out ≡ written out 0 ((head ++ two_bytes o.first) ++ (length o.lengths ∷ [])) =
     written_more out 0 (head ++ two_bytes o.first) (length o.lengths ∷ []) number c.put-at-2.ensures.bytes (omega arith) (omega arith) in
     let all : c.put.new.out ≡ written out 0 (slip_bytes (opening o)) =
