@@ -10,6 +10,7 @@ ghost use Rattle.bill.specs.Reasons.{plan_reason, month_reason, refusal_text};
 ghost use Rattle.bill.specs.Words.{box_named};
 
 use crate::words::{lettered, read_byte, read_fuel, read_hundredths, read_price};
+use anyhow::anyhow;
 use settlement::deposit_box::DepositBox;
 use settlement::fault::MonthFault;
 use settlement::prices::Prices;
@@ -73,7 +74,7 @@ fn refusal_text(heap: Global, number: u8, why: &str) -> Result<String, AllocErro
 }
 
 fn refusal(heap: Global, number: u8, why: &str) -> Result<anyhow::Error, AllocError> {
-    Ok(refusal_text(heap, number, why)?.into())
+    Ok(anyhow!(refusal_text(heap, number, why)?))
 }
 
 fn all_hundredths(heap: Global, words: &[String]) -> anyhow::Result<Vec<u32>>
@@ -103,10 +104,10 @@ impl<'a> Order<'a> {
             used @ ..,
         ] = words
         else {
-            return Err(USAGE.into());
+            return Err(anyhow!(USAGE));
         };
         if used.is_empty() || used.len() > 4 {
-            return Err(USAGE.into());
+            return Err(anyhow!(USAGE));
         }
         Ok(Order {
             tariff: read_byte(heap, tariff.as_str())?,
@@ -153,7 +154,7 @@ impl<'a> Order<'a> {
     {
         match Totals::new(&self.used, self.surplus) {
             Some(totals) => Ok(totals),
-            None => Err(BEYOND.into()),
+            None => Err(anyhow!(BEYOND)),
         }
     }
 

@@ -7,8 +7,8 @@ use Rattle.bill.proofs.order.all_hundredths.Goals as goal
 
 pub loop-word-preserved : goal.loop-word-preserved
 loop-word-preserved c =
-    let read = c.in-ok-read-hundredths.ensures ∙ ap (counted 4294967295) c.as-str.ensures.value in
-    c.in-ok-push.ensures.items
+    let read = c.in_ok-read_hundredths.ensures ∙ ap (counted 4294967295) c.as_str.ensures.value in
+    c.in_ok-push.ensures.items
     ∙ (λ j. c.loop-word.invariant j ++ read j ∷ [])
     ∙ sym (one_more 4294967295 c.args.words.now c.loop-word.word-index c.word-item.result c.loop-word-test.true c.word-item.is)
 
