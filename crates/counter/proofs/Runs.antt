@@ -11,7 +11,7 @@ use Rattle.account.proofs.Unrefused.{needed}
 use Rattle.account.proofs.Upholding.{so_far, closed_totalled, upheld, charge_refused}
 use Rattle.account.specs.History.{Reply, refused, done, difference, settled, Entry, History, opened, Settles, Answered, Accepted, charge, charged, sumZ, correction}
 use Rattle.account.specs.History as history
-use Rattle.account.specs.Ledger.{Opening, LawfulOpening, Ledger, empty, Request, post, correct, strike, draft, close, show, ground, after, no_prices, month_totals, month_numbers}
+use Rattle.account.specs.Ledger.{Opening, LawfulOpening, Ledger, empty, Request, post, correct, strike, draft, close, show, ground, no_prices, month_totals, month_numbers}
 use Rattle.account.specs.declared.fault.AccountFault.{AccountFault}
 use Rattle.account.specs.declared.fault.AccountFault.TheVariants.{NotClosed}
 use Rattle.slip.specs.Format.{Slip, Opening as Order}

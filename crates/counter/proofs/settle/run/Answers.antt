@@ -7,8 +7,8 @@ use Rattle.counter.proofs.settle.run.Goals as goal
 pub loop-number-init : goal.loop-number-init
 loop-number-init c = ran_none (book_of c.args.counter.now) c.args.input.now c.args.out.now
 
-pub returns-then-is-empty : goal.returns-then-is-empty
-returns-then-is-empty c =
+pub returns-then-is_empty : goal.returns-then-is_empty
+returns-then-is_empty c =
     let book = book_of c.args.counter.now in
     let input = c.args.input.now in
     let before = c.args.out.now in
@@ -26,7 +26,7 @@ loop-number-preserved c =
     let book = book_of c.args.counter.now in
     let input = c.args.input.now in
     let before = c.args.out.now in
-    ran_more book input before c.loop-number.invariant c.take-slip-taken.result.line (omega arith) c.take-slip-taken.ensures.line c.take-slip-taken.ensures.shorter
+    ran_more book input before c.loop-number.invariant c.take_slip-taken.result.line (omega arith) c.take_slip-taken.ensures.line c.take_slip-taken.ensures.shorter
     c.put-at.ensures.place c.put-at.ensures.near c.put-at.ensures.bytes (omega arith)
 
 pub returns : goal.returns
