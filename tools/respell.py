@@ -55,6 +55,10 @@ def main():
             with open(path, encoding="utf-8") as h:
                 old = h.read()
             new = respell(old, kind)
+            # the library's `All` goes by index today; the one that these files mean has a name of its own
+            if re.search(r"AllByRecursion as All(?![\w'\-])", new):
+                new = new.replace("AllByRecursion as All", "AllByRecursion")
+                new = re.sub(r"(?<![\w'\-])All(?![\w'\-])", "AllByRecursion", new)
             if new != old:
                 with open(path, "w", encoding="utf-8") as h:
                     h.write(new)

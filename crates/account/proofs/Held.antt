@@ -5,7 +5,7 @@ use Rattle.std.proofs.ByRecursion.{All-weaker, sum_by_le}
 use Rattle.std.proofs.lemmas.List.{length-map}
 use Rattle.std.proofs.lemmas.List.Sums.{sum_by_more, sum_by-take-le}
 use Rattle.std.proofs.lemmas.Bool.{and_parts, and_from, leb-true, cases_eq, eq-eqb, ne_eqb, cond-true, cond-false}
-use Rattle.std.specs.List.{range_with_len, AllByRecursion as All}
+use Rattle.std.specs.List.{range_with_len, AllByRecursion}
 use Rattle.std.specs.Option.{option_map}
 use Rattle.std.specs.Map.{update}
 use Rattle.tariff.specs.Meaning.{TariffMeaning, Meaning}
@@ -28,7 +28,7 @@ use Rattle.account.specs.declared.calendar.Calendar.{Calendar}
 use Rattle.account.proofs.MonthDays.{window, start_more}
 
 -- months of the rule have 1 to 35 days
-pub lengths_within : (lengths : List ℕ) → lengths_right lengths ≡ true → All (λ days. (1 ≤ days) × (days ≤ 35)) lengths
+pub lengths_within : (lengths : List ℕ) → lengths_right lengths ≡ true → AllByRecursion (λ days. (1 ≤ days) × (days ≤ 35)) lengths
 lengths_within [] e = tt
 lengths_within (n ∷ lengths) e =
     let parts = and_parts (leb 1 n && leb n 35) (lengths_right lengths) e in

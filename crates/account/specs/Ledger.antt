@@ -1,6 +1,6 @@
 -- The ledger: the plain book that an account is held to. It is fed what the opening took and what each call is handed.
 use Rattle.std.specs.Prelude.{◌≡◌, ℕ, suc, ◌+◌, ◌-◌, ◌≤◌, cond, List, [], ◌∷◌, ◌++◌, map, length, take, ℤ, pos, is_some, Some, None, sum, Option, nat_eq, nat_le, nat_lt, slice_index, slice_index_or}
-use Rattle.std.specs.List.{range_with_len, AllByRecursion as All}
+use Rattle.std.specs.List.{range_with_len, AllByRecursion}
 use Rattle.std.specs.Option.{option_map}
 use Rattle.std.specs.Map.{update}
 use Rattle.tariff.specs.Calendar.{last_day}
@@ -29,7 +29,7 @@ pub record LawfulOpening (o : Opening) : Type 0 where
   pub supply : Lawful o.meaning o.tables
   pub some_month : 1 ≤ length o.lengths
   pub few_months : length o.lengths ≤ 12
-  pub lengths_within : All (λ days. (1 ≤ days) × (days ≤ 35)) o.lengths
+  pub lengths_within : AllByRecursion (λ days. (1 ≤ days) × (days ≤ 35)) o.lengths
   pub last_on_calendar : o.first + sum o.lengths ≤ suc last_day
 
 -- alike in all that they took, supplies in meaning

@@ -1,7 +1,7 @@
 -- Worked figures: what the definitions of tariffs and of settling answer on examples.
 use Rattle.std.specs.Prelude.{◌≡◌, ℕ, false, List, [], ◌∷◌, ℤ, pos, neg_ℤ, Some, Ok, Option}
 use Rattle.std.specs.Option.{option_map}
-use Rattle.std.specs.List.{AllByRecursion as All}
+use Rattle.std.specs.List.{AllByRecursion}
 use Rattle.tariff.specs.Discount.{percent_of, discounted, discounted_tables}
 use Rattle.tariff.specs.Fuel.{fuel_of}
 use Rattle.tariff.specs.Plans.{numbered, numbered_tables}
@@ -135,4 +135,4 @@ figures =
     ∷ []
 
 abbrev pub FiguresHold : Type 0
-FiguresHold = All Holds figures
+FiguresHold = AllByRecursion Holds figures

@@ -5,14 +5,14 @@ use Rattle.std.proofs.ByRecursion.{All-take, sum_by_le}
 use Rattle.std.proofs.lemmas.List.{take_more, take_more_set, take_all}
 use Rattle.std.proofs.lemmas.List.Sums.{sum_by-cons, sum_by_more, sum_by_push, sum_by-set, get_or-le-sum_by}
 use Rattle.std.proofs.lemmas.Bool.{and_parts, cases_eq, eq-eqb, ne_eqb, leb-true}
-use Rattle.std.specs.List.{range_with_len, AllByRecursion as All}
+use Rattle.std.specs.List.{range_with_len, AllByRecursion}
 use Rattle.settlement.specs.Limits.{figures_within}
 use Rattle.tariff.specs.Meaning.{TariffMeaning, LawfulTariff}
 use Rattle.tariff.specs.Steps.{Step}
 use Rattle.tariff.specs.Lawful.{class_within}
 use Rattle.settlement.specs.Totals.{Figures, MonthTotals, of_class, in_class, day_in_class, totals_of, plus_day, numbered}
 
-figures_low : (xs : List ℕ) → figures_within xs ≡ true → All (λ x. x ≤ 2500) xs
+figures_low : (xs : List ℕ) → figures_within xs ≡ true → AllByRecursion (λ x. x ≤ 2500) xs
 figures_low [] e = tt
 figures_low (x ∷ xs) e = let parts = and_parts (leb x 2500) (figures_within xs) e in (leb-true x 2500 parts.0, figures_low xs parts.1)
 

@@ -1,6 +1,6 @@
 -- Reading and the format are each other's inverse.
 use Rattle.std.proofs.Common.{◌≡◌, ℕ, ◌+◌, ◌-◌, ◌*◌, ◌%◌, ◌≤◌, Bool, true, false, cond, ◌&&◌, eqb, ltb, leb, List, [], ◌∷◌, ◌++◌, map, length, get_or, replicate, ℤ, pos, negsuc, Ok, Err, Result, sym, refl, ap, ◌∙◌, subst, append_assoc, arith}
-use Rattle.std.specs.List.{AllByRecursion as All}
+use Rattle.std.specs.List.{AllByRecursion}
 use Rattle.std.proofs.lemmas.Nat.{div-add-mod'}
 use Rattle.std.proofs.lemmas.List.{length-map}
 use Rattle.std.proofs.lemmas.Bool.{and_from, le-leb, eqb-true, eq-eqb, and_parts, leb-true, ltb-true, ltb-false, lt-ltb, le-ltb, cond-true, cond-false}
@@ -132,7 +132,7 @@ closed_as b bs more true meant fits e all =
     let low : b % 32 ≡ 0 = eqb-true _ _ meant in
     let x = get_or ns 0 0 in
     let whole : ns ≡ x ∷ get_or ns 1 0 ∷ get_or ns 2 0 ∷ replicate 5 0 = three_stand b ns fits low said.1 in
-    let fit : All Two (x ∷ get_or ns 1 0 ∷ get_or ns 2 0 ∷ replicate 5 0) = subst (All Two) whole said.2 in
+    let fit : AllByRecursion Two (x ∷ get_or ns 1 0 ∷ get_or ns 2 0 ∷ replicate 5 0) = subst (AllByRecursion Two) whole said.2 in
     let fuel = complement_of x (ltb x 32768) refl fit.0 in
     let own : map_byte 128 ns ≡ b = map_byte_of_bits b ns fits said.1 in (
       record { fuel = signed x; levy = get_or ns 1 0; buy = get_or ns 2 0 },

@@ -1,7 +1,7 @@
 -- The bits of a map: bytes and bits are each other's inverse, and so are maps and the numbers that stand in them.
 use Rattle.std.proofs.Common.{◌≡◌, ℕ, zero, suc, ◌+◌, ◌*◌, ◌/◌, ◌%◌, ◌<◌, Bool, true, false, cond, ◌&&◌, eqb, List, [], ◌∷◌, ◌++◌, map, length, get_or, take, drop, replicate, sym, refl, ap, ◌∙◌, subst, inl, inr, arith, length-append, length-drop, take-append-drop}
 use mathlib.Core.List.{nil≢cons, cons≢nil, head-eq_of_cons-eq, tail-eq_of_cons-eq}
-use Rattle.std.specs.List.{AllByRecursion as All}
+use Rattle.std.specs.List.{AllByRecursion}
 use Rattle.std.proofs.lemmas.List.{length-map, take-map, drop-map, map-append, take_at, drop_at, length-take-le}
 use Rattle.std.proofs.lemmas.Bool.{and_parts, eqb-true, eq-eqb, cases_eq, false≢true, true≢false}
 use Rattle.slip.specs.Exact.{One}
@@ -88,7 +88,7 @@ map_bits (suc count) ns whole =
     ap (λ l. l ++ all_bits (map_bytes count (drop 8 ns))) first ∙ ap (λ l. map stands (take 8 ns) ++ l) later ∙ sym (map-append stands (take 8 ns) (drop 8 ns)) ∙ ap (map stands) (take-append-drop 8 ns)
 
 -- and bytes whose bits are those of numbers are the map of these
-pub map_of_bits : (maps ns : List ℕ) → All One maps → map stands ns ≡ all_bits maps → map_bytes (length maps) ns ≡ maps
+pub map_of_bits : (maps ns : List ℕ) → AllByRecursion One maps → map stands ns ≡ all_bits maps → map_bytes (length maps) ns ≡ maps
 map_of_bits [] ns fit e = refl
 map_of_bits (m ∷ maps) ns fit e =
     let first : map stands (take 8 ns) ≡ bits m = sym (take-map stands 8 ns) ∙ ap (take 8) e ∙ take_at (bits m) (all_bits maps) 8 refl in

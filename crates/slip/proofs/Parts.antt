@@ -1,6 +1,6 @@
 -- The parts of a slip: what each reads as, and that it reads nothing but its bytes.
 use Rattle.std.proofs.Common.{◌≡◌, ℕ, zero, suc, ◌+◌, ◌*◌, ◌/◌, ◌%◌, Bool, true, false, cond, eqb, List, [], ◌∷◌, ◌++◌, map, length, Ok, Err, sym, refl, ap, ◌∙◌, subst, append_assoc, add-zero, arith, length-append}
-use Rattle.std.specs.List.{AllByRecursion as All}
+use Rattle.std.specs.List.{AllByRecursion}
 use Rattle.std.proofs.lemmas.Nat.{div-add-mod'}
 use Rattle.std.proofs.lemmas.Bool.{eqb-true}
 use Rattle.slip.specs.Exact.{One, Two}
@@ -30,7 +30,7 @@ pub on_faults : {A B : Type 0} (r : Read A) (next : A → ℕ → List ℕ → R
 on_faults r next e = ap (λ r. on r next) e
 
 abbrev pub Bytes : List ℕ → Type 0
-Bytes bs = All One bs
+Bytes bs = AllByRecursion One bs
 
 pub byte_reads : (place b : ℕ) (rest : List ℕ) → byte place (b ∷ rest) ≡ Ok (b, place + 1, rest)
 byte_reads place b rest = refl
@@ -120,7 +120,7 @@ figure_said true place bs all =
     said_on (Figured true bs) (number place bs) _ (number_said place bs all) (λ n behind rest read. figured_as n place behind bs rest (eqb n 0) refl read.0 read.1 read.2)
 
 abbrev Stood : List Bool → List ℕ → List ℕ → List ℕ → Type 0
-Stood bits bs ns rest = (bs ≡ standing_bytes ns ++ rest) × (map stands ns ≡ bits) × All Two ns × Bytes rest
+Stood bits bs ns rest = (bs ≡ standing_bytes ns ++ rest) × (map stands ns ≡ bits) × AllByRecursion Two ns × Bytes rest
 
 pub standing_said : (bits : List Bool) (place : ℕ) (bs : List ℕ) → Bytes bs → Said (Stood bits bs) (standing bits place bs)
 standing_said [] place bs all = (refl, refl, tt, all)

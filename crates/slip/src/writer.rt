@@ -1,5 +1,5 @@
 ghost use Rattle.std.specs.Prelude.{◌≡◌, ◌+◌, ◌*◌, ◌≤◌, ◌∷◌, length, OnOk};
-ghost use Rattle.std.specs.List.{AllByRecursion as All};
+ghost use Rattle.std.specs.List.{AllByRecursion};
 ghost use Rattle.slip.specs.Exact.{One, EntryFits, OpeningFits, PricesFit};
 ghost use Rattle.slip.specs.Format.{opening as opened, strike as struck, close as closed, two_bytes, map_byte, map_bytes, standing_bytes, packed, entry_bytes};
 ghost use Rattle.slip.specs.Reading.{posted};
@@ -143,7 +143,7 @@ fn put(out: &mut [u8], at: usize, text: &[u8]) -> usize
     requires { at + length text.now ≤ length out.old }
     ensures place { result ≡ at + length text.now }
     ensures bytes { out.new ≡ written out.old at text.now }
-    ensures fits { All One text.now }
+    ensures fits { AllByRecursion One text.now }
 {
     let end = at + text.len();
     out[at..end].copy_from_slice(text);

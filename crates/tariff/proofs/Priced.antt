@@ -3,7 +3,7 @@ use Rattle.std.proofs.Common.{◌≡◌, ℕ, zero, suc, ◌+◌, ◌<◌, ◌�
 use Rattle.std.proofs.ByRecursion.{All-get_or}
 use Rattle.std.proofs.lemmas.List.{at_drop_all}
 use Rattle.std.proofs.lemmas.Bool.{and_parts, both_ways, leb-true, lt-ltb, le-ltb}
-use Rattle.std.specs.List.{slice_get, AllByRecursion as All}
+use Rattle.std.specs.List.{slice_get, AllByRecursion}
 use Rattle.tariff.specs.Meaning.{TariffMeaning, LawfulTariff, EveryKwhPriced}
 use Rattle.tariff.specs.Steps.{Step, rising, right_table, price_in, above, FirstAbove}
 
@@ -89,7 +89,7 @@ every_priced m tables l class k lt =
     subst (λ price. FirstAbove (get_or tables class []) k price) (sym (l.priced_by_steps class k)) (first_above 0 (get_or tables class []) k parts.1)
 
 -- no table has more than four steps
-pub four_at_most : (tables : List (List Step)) (class : ℕ) → All (λ table. right_table table ≡ true) tables → length (get_or tables class []) ≤ 4
+pub four_at_most : (tables : List (List Step)) (class : ℕ) → AllByRecursion (λ table. right_table table ≡ true) tables → length (get_or tables class []) ≤ 4
 four_at_most [] class rights = lit≤ tt
 four_at_most (steps ∷ tables) zero rights = leb-true _ 4 (and_parts (leb (length steps) 4) (rising 0 steps) rights.0).0
 four_at_most (steps ∷ tables) (suc class) rights = four_at_most tables class rights.1

@@ -2,14 +2,14 @@
 use Rattle.std.specs.Prelude.{◌≡◌, ℕ, ◌+◌, ◌-◌, ◌*◌, ◌<◌, ◌≤◌, Bool, true, false, cond, not, ◌&&◌, List, length, Some, nat_le, refl}
 use Rattle.std.proofs.Common.{inl, inr, arith, lit≤}
 use Rattle.std.proofs.lemmas.Bool.{cases_Bool, cond-true, cond-false, cond_both}
-use Rattle.std.specs.List.{AllByRecursion as All}
+use Rattle.std.specs.List.{AllByRecursion}
 use Rattle.tariff.specs.Calendar.{Date, date, on_calendar, summer, rest_day}
 use Rattle.tariff.specs.Meaning.{TariffMeaning, LawfulTariff, Lawful}
 use Rattle.tariff.specs.Steps.{Step, right_table}
 use Rattle.tariff.specs.Tariffs.{tariff_of, between, halved_unless, night, night_class, night_tables, seasonal, seasonal_class, seasonal_tables}
 
 -- a tariff of right tables whose classes are all among them is lawful
-pub lawful-of : (class : Date → Bool → ℕ → ℕ) (tables : List (List Step)) → 1 ≤ length tables → length tables ≤ 4 → All (λ table. right_table table ≡ true) tables → ((d : Date) (rest : Bool) (half-hour : ℕ) → class d rest half-hour < length tables) → LawfulTariff (tariff_of class tables) tables
+pub lawful-of : (class : Date → Bool → ℕ → ℕ) (tables : List (List Step)) → 1 ≤ length tables → length tables ≤ 4 → AllByRecursion (λ table. right_table table ≡ true) tables → ((d : Date) (rest : Bool) (half-hour : ℕ) → class d rest half-hour < length tables) → LawfulTariff (tariff_of class tables) tables
 lawful-of class tables some few right within = record {
   some_class = some;
   few_classes = few;

@@ -1,6 +1,6 @@
 -- What a tariff and a supply mean, each as one value, and what every lawful one keeps.
 use Rattle.std.specs.Prelude.{◌≡◌, ℕ, ◌<◌, ◌≤◌, Bool, true, false, List, [], length, Some, None, Option, slice_index_or}
-use Rattle.std.specs.List.{AllByRecursion as All}
+use Rattle.std.specs.List.{AllByRecursion}
 use Rattle.tariff.specs.Calendar.{on_calendar}
 use Rattle.tariff.specs.Steps.{Step, right_table, price_of, FirstAbove}
 
@@ -25,7 +25,7 @@ pub record LawfulTariff (m : TariffMeaning) (tables : List (List Step)) : Type 0
   pub some_class : 1 ≤ m.classes
   pub few_classes : m.classes ≤ 4
   pub a_table_each : length tables ≡ m.classes
-  pub tables_right : All (λ table. right_table table ≡ true) tables
+  pub tables_right : AllByRecursion (λ table. right_table table ≡ true) tables
   pub class_known : (day : ℕ) (rest : Bool) (half-hour : ℕ) → on_calendar day half-hour ≡ true → IsClass m.classes (m.class day rest half-hour)
   pub class_none : (day : ℕ) (rest : Bool) (half-hour : ℕ) → on_calendar day half-hour ≡ false → m.class day rest half-hour ≡ None
   pub priced_by_steps : (class k : ℕ) → m.price class k ≡ price_of tables class k

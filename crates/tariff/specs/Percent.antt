@@ -5,7 +5,7 @@ use Rattle.std.proofs.Math.Path.{fun_ext}
 use Rattle.std.proofs.lemmas.List.{length-map}
 use Rattle.std.proofs.lemmas.Bool.{and_parts, and_from, leb-true, le-leb}
 use Rattle.std.proofs.lemmas.Bool.Decides.{nat_tests}
-use Rattle.std.specs.List.{slice_get, AllByRecursion as All}
+use Rattle.std.specs.List.{slice_get, AllByRecursion}
 use Rattle.std.specs.Option.{option_map}
 use Rattle.tariff.specs.Discount.{percent_of, discounted, discounted_tariff, discounted_step, discounted_tables, DiscountHolds}
 use Rattle.tariff.specs.Meaning.{TariffMeaning, Meaning, LawfulTariff, Lawful}
@@ -32,7 +32,7 @@ module _ (percent : ℕ) (h : percent ≤ 100) where
       let c = and_parts (nat_le price 20000) (rising end rest) b.1 in
       and_from _ _ a.0 (and_from _ _ b.0 (and_from _ _ (cheaper price c.0) (rising_kept end rest c.1)))
 
-  right_kept : (tables : List (List Step)) → All (λ table. right_table table ≡ true) tables → All (λ table. right_table table ≡ true) (discounted_tables percent tables)
+  right_kept : (tables : List (List Step)) → AllByRecursion (λ table. right_table table ≡ true) tables → AllByRecursion (λ table. right_table table ≡ true) (discounted_tables percent tables)
   right_kept [] rights = tt
   right_kept (steps ∷ tables) rights =
       let parts = and_parts (nat_le (length steps) 4) (rising 0 steps) rights.0 in
