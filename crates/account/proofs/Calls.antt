@@ -3,7 +3,7 @@ use Rattle.std.proofs.Common.{◌≡◌, ℕ, ◌<◌, ◌≤◌, List, length, 
 use Rattle.tariff.specs.Meaning.{Meaning, Lawful}
 use Rattle.tariff.specs.Steps.{Step}
 use Rattle.account.specs.History.{Reply, refused, Accepted, Answered, Kept}
-use Rattle.account.specs.Ledger.{Opening, LawfulOpening, Ledger, Request, month_in, closed_days, ground, done, unless_refused}
+use Rattle.account.specs.Ledger.{Opening, LawfulOpening, Ledger, Request, month_in, closed_days, request_ground, done, unless_refused}
 use Rattle.account.specs.Replies.{Stays, Keeps}
 use Rattle.account.specs.View.{lengths_of, opening_of, ledger_of}
 use Rattle.account.specs.declared.account.Account.{Account}
@@ -38,13 +38,13 @@ pub has_place : {S : Type 0} (a : Account S) (day : ℕ) → day < sum (lengths_
 has_place a day h = omega (arith, calendar_days a.calendar)
 
 module _ (o : Opening) (lawful : LawfulOpening o) (l : Ledger) (r : Request) where
-  pub refused_kept : (fault : AccountFault) (next : Ledger) → ground o l r ≡ Some fault → next ≡ l → Kept o l r (refused fault) next
+  pub refused_kept : (fault : AccountFault) (next : Ledger) → request_ground o l r ≡ Some fault → next ≡ l → Kept o l r (refused fault) next
   refused_kept fault next is same =
       kept o lawful l r (refused fault) next
       (subst (λ (g : Option AccountFault). Answered g o l r (refused fault)) (sym is) refl)
       (same ∙ sym (ap (λ (g : Option AccountFault). unless_refused g l (done l r)) is))
 
-  pub accepted_kept : (reply : Reply) (next : Ledger) → ground o l r ≡ None → Accepted o l r reply → next ≡ done l r → Kept o l r reply next
+  pub accepted_kept : (reply : Reply) (next : Ledger) → request_ground o l r ≡ None → Accepted o l r reply → next ≡ done l r → Kept o l r reply next
   accepted_kept reply next is answer leads =
       kept o lawful l r reply next
       (subst (λ (g : Option AccountFault). Answered g o l r reply) (sym is) answer)
@@ -52,8 +52,8 @@ module _ (o : Opening) (lawful : LawfulOpening o) (l : Ledger) (r : Request) whe
 
 -- the same of an account, whose supply, box and calendar stay
 module _ {S : Type 0} (m : Meaning) (tables : List (List Step)) (a b : Account S) (r : Request) (law : Lawful m tables) (opening : Stays a b) where
-  pub refuses : (fault : AccountFault) → ground (opening_of m tables a) (ledger_of a) r ≡ Some fault → ledger_of b ≡ ledger_of a → Keeps m tables a b r (refused fault)
+  pub refuses : (fault : AccountFault) → request_ground (opening_of m tables a) (ledger_of a) r ≡ Some fault → ledger_of b ≡ ledger_of a → Keeps m tables a b r (refused fault)
   refuses fault is same = record { law = refused_kept (opening_of m tables a) (opening_lawful m tables a law) (ledger_of a) r fault (ledger_of b) is same; opening = opening }
 
-  pub accepts : (reply : Reply) → ground (opening_of m tables a) (ledger_of a) r ≡ None → Accepted (opening_of m tables a) (ledger_of a) r reply → ledger_of b ≡ done (ledger_of a) r → Keeps m tables a b r reply
+  pub accepts : (reply : Reply) → request_ground (opening_of m tables a) (ledger_of a) r ≡ None → Accepted (opening_of m tables a) (ledger_of a) r reply → ledger_of b ≡ done (ledger_of a) r → Keeps m tables a b r reply
   accepts reply is answer leads = record { law = accepted_kept (opening_of m tables a) (opening_lawful m tables a law) (ledger_of a) r reply (ledger_of b) is answer leads; opening = opening }

@@ -8,7 +8,7 @@ use Rattle.settlement.specs.Settling.{MonthPrices}
 use Rattle.settlement.specs.Totals.{Figures}
 use Rattle.settlement.specs.declared.reading.ReadingFault.{ReadingFault}
 use Rattle.settlement.specs.declared.reading.ReadingFault.TheVariants.{Length, Figure}
-use Rattle.account.specs.Ledger.{Opening, Ledger, days, month_length, closed_days, strike, first_missing, figures_ground, entry_ground, month_ground, ground}
+use Rattle.account.specs.Ledger.{Opening, Ledger, days, month_length, closed_days, strike, first_missing, figures_ground, entry_ground, month_ground, request_ground}
 use Rattle.account.specs.declared.fault.AccountFault.{AccountFault}
 
 -- a ground that holds if a test passes does not, nor one behind it
@@ -34,7 +34,7 @@ pub entered : (o : Opening) (day : ℕ) (f : Figures) (others : Option AccountFa
 entered o day f others e =
     let known = passed _ _ _ e in (leb-false (days o) day known.0, right_figures day (reading_ground f.used f.surplus) others known.1)
 
-pub struck : (o : Opening) (l : Ledger) (day : ℕ) → ground o l (strike day) ≡ None → (day < days o) × (closed_days o l ≤ day)
+pub struck : (o : Opening) (l : Ledger) (day : ℕ) → request_ground o l (strike day) ≡ None → (day < days o) × (closed_days o l ≤ day)
 struck o l day e =
     let known = passed _ _ _ e in
     let there = needed _ _ _ known.1 in

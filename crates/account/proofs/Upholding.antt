@@ -8,7 +8,7 @@ use Rattle.settlement.specs.Settling.{MonthPrices}
 use Rattle.settlement.specs.Totals.{Figures, MonthTotals}
 use Rattle.account.specs.History.{Reply, refused, Answered, Answers, Accepted, Entry, History, opened, called, charge, charged, sumZ, closed_nets, Upheld, Kept}
 use Rattle.account.specs.Law.{Law}
-use Rattle.account.specs.Ledger.{Opening, LawfulOpening, Ledger, empty, days, month_start, month_length, month_of_day, month_totals, month_numbers, closed_days, net_in, Request, post, correct, strike, draft, close, show, ground, with_standing, done, unless_refused, after}
+use Rattle.account.specs.Ledger.{Opening, LawfulOpening, Ledger, empty, days, month_start, month_length, month_of_day, month_totals, month_numbers, closed_days, net_in, Request, post, correct, strike, draft, close, show, request_ground, with_standing, done, unless_refused, after}
 use Rattle.account.specs.declared.fault.AccountFault.{AccountFault}
 use Rattle.account.proofs.Alike.{nets_alike}
 use Rattle.account.proofs.Complete.{Stand, none_missing, totalled, shown_right}
@@ -62,7 +62,7 @@ module _ (o : Opening) (l : Ledger) (now : Sound o l) where
     | inr le ↦ le
   ]
 
-  closing : (p : MonthPrices) → ground o l (close p) ≡ None → Step o l (done l (close p)) (net_in (month_numbers o l (length l.closed) p))
+  closing : (p : MonthPrices) → request_ground o l (close p) ≡ None → Step o l (done l (close p)) (net_in (month_numbers o l (length l.closed) p))
   closing p e =
       let n = length l.closed in
       let ready = completed o l p e in
@@ -80,7 +80,7 @@ module _ (o : Opening) (l : Ledger) (now : Sound o l) where
         adds = nets_closed o l p;
       }
 
-  accepted : (r : Request) (reply : Reply) → ground o l r ≡ None → Accepted o l r reply → Step o l (done l r) (charge (r, reply))
+  accepted : (r : Request) (reply : Reply) → request_ground o l r ≡ None → Accepted o l r reply → Step o l (done l r) (charge (r, reply))
   accepted (post day f) reply e a =
       let known = entered o day f _ e in changed_open day (Some f) known.0 (free_open day (passed _ _ _ known.1).0)
   accepted (correct day f) reply e a =
@@ -91,7 +91,7 @@ module _ (o : Opening) (l : Ledger) (now : Sound o l) where
       subst (Step o l (done l (close p))) (ap net_in a.2 ∙ sym (ap (λ x. charge (close p, x)) a.3)) (closing p e)
   accepted (show month) reply e a = unchanged
 
-  answered : (r : Request) (reply : Reply) (g : Option AccountFault) → ground o l r ≡ g → Answered g o l r reply → Step o l (unless_refused g l (done l r)) (charge (r, reply))
+  answered : (r : Request) (reply : Reply) (g : Option AccountFault) → request_ground o l r ≡ g → Answered g o l r reply → Step o l (unless_refused g l (done l r)) (charge (r, reply))
   answered r reply None e a = accepted r reply e a
   answered r reply (Some fault) e a = subst (Step o l l) (sym (ap (λ x. charge (r, x)) a ∙ charge_refused r fault)) unchanged
 
@@ -100,7 +100,7 @@ pub opened_sound : (o : Opening) → Sound o empty
 opened_sound o = record { few_closed = omega arith; all_stand = λ day ge lt. absurd (omega arith) }
 
 pub sound_after : (o : Opening) (l : Ledger) → Sound o l → (r : Request) (reply : Reply) → Answers o l r reply → Sound o (after o l r)
-sound_after o l now r reply a = (answered o l now r reply (ground o l r) refl a).sound
+sound_after o l now r reply a = (answered o l now r reply (request_ground o l r) refl a).sound
 
 -- of every history: its ledger is sound, and its charges are the nets of the closed months
 pub record SoFar (o : Opening) (entries : List Entry) (l : Ledger) : Type 0 where
@@ -111,7 +111,7 @@ pub so_far : {o : Opening} {entries : List Entry} {l : Ledger} → History o ent
 so_far {o} opened = record { sound = opened_sound o; adds_up = refl }
 so_far {o} (called {entries} {l} r reply h a) =
     let before = so_far h in
-    let step = answered o l before.sound r reply (ground o l r) refl a in
+    let step = answered o l before.sound r reply (request_ground o l r) refl a in
     record {
       sound = step.sound;
       adds_up =

@@ -5,7 +5,7 @@ use Rattle.settlement.specs.Boxes.{limit}
 use Rattle.settlement.specs.Rows.{Best, used_rows}
 use Rattle.settlement.specs.Settling.{Numbers, smallest}
 use Rattle.settlement.specs.Totals.{Figures}
-use Rattle.account.specs.Ledger.{Opening, LawfulOpening, OpenedAlike, Ledger, empty, closed_days, month_of_day, month_numbers, closed_numbers, net_in, Request, post, correct, strike, draft, close, show, ground, after, with_standing}
+use Rattle.account.specs.Ledger.{Opening, LawfulOpening, OpenedAlike, Ledger, empty, closed_days, month_of_day, month_numbers, closed_numbers, net_in, Request, post, correct, strike, draft, close, show, request_ground, after, with_standing}
 use Rattle.account.specs.declared.fault.AccountFault.{AccountFault}
 
 -- what a call answers: a refusal, that it is done, a difference in yen, or a settlement with its count of credit lines
@@ -41,7 +41,7 @@ Answered None o l r reply = Accepted o l r reply
 Answered (Some fault) o l r reply = reply ≡ refused fault
 
 abbrev pub Answers : Opening → Ledger → Request → Reply → Type 0
-Answers o l r reply = Answered (ground o l r) o l r reply
+Answers o l r reply = Answered (request_ground o l r) o l r reply
 
 abbrev pub Entry : Type 0
 Entry = Request × Reply

@@ -121,15 +121,15 @@ month_ground o l p =
     (Some Price))
 
 -- the first ground listed that holds against a call
-abbrev pub ground : Opening → Ledger → Request → Option AccountFault
-ground o l (post day f) = entry_ground o day f (cond (is_some (l.standing day)) (Some (Posted day)) None)
-ground o l (correct day f) = entry_ground o day f (cond (is_some (l.standing day)) None (Some (NotPosted day)))
-ground o l (strike day) =
+abbrev pub request_ground : Opening → Ledger → Request → Option AccountFault
+request_ground o l (post day f) = entry_ground o day f (cond (is_some (l.standing day)) (Some (Posted day)) None)
+request_ground o l (correct day f) = entry_ground o day f (cond (is_some (l.standing day)) None (Some (NotPosted day)))
+request_ground o l (strike day) =
     cond (nat_le (days o) day) (Some (Beyond day))
     (cond (is_some (l.standing day)) (cond (nat_lt day (closed_days o l)) (Some (Closed day)) None) (Some (NotPosted day)))
-ground o l (draft p) = month_ground o l p
-ground o l (close p) = month_ground o l p
-ground o l (show month) = cond (nat_lt month (length l.closed)) None (Some NotClosed)
+request_ground o l (draft p) = month_ground o l p
+request_ground o l (close p) = month_ground o l p
+request_ground o l (show month) = cond (nat_lt month (length l.closed)) None (Some NotClosed)
 
 -- the ledger with another reading, or none, standing on a day
 abbrev pub with_standing : Ledger → ℕ → Option Figures → Ledger
@@ -150,4 +150,4 @@ unless_refused None l next = next
 unless_refused (Some fault) l next = l
 
 abbrev pub after : Opening → Ledger → Request → Ledger
-after o l r = unless_refused (ground o l r) l (done l r)
+after o l r = unless_refused (request_ground o l r) l (done l r)

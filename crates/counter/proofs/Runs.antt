@@ -11,7 +11,7 @@ use Rattle.account.proofs.Unrefused.{needed}
 use Rattle.account.proofs.Upholding.{so_far, closed_totalled, upheld, charge_refused}
 use Rattle.account.specs.History.{Reply, refused, done, difference, settled, Entry, History, opened, Settles, Answered, Accepted, charge, charged, sumZ, correction}
 use Rattle.account.specs.History as history
-use Rattle.account.specs.Ledger.{Opening, LawfulOpening, Ledger, empty, Request, post, correct, strike, draft, close, show, ground, no_prices, month_totals, month_numbers}
+use Rattle.account.specs.Ledger.{Opening, LawfulOpening, Ledger, empty, Request, post, correct, strike, draft, close, show, request_ground, no_prices, month_totals, month_numbers}
 use Rattle.account.specs.declared.fault.AccountFault.{AccountFault}
 use Rattle.account.specs.declared.fault.AccountFault.TheVariants.{NotClosed}
 use Rattle.slip.specs.Format.{Slip, Opening as Order}
@@ -48,7 +48,7 @@ settles o l month p t is =
 
 module _ (o : Opening) (law : LawfulOpening o) (l : Ledger) {entries : List Entry} (h : History o entries l) where
   -- every call has a right reply
-  accepted : (r : Request) → ground o l r ≡ None → (reply : Reply) × Accepted o l r reply
+  accepted : (r : Request) → request_ground o l r ≡ None → (reply : Reply) × Accepted o l r reply
   accepted (post day f) free = (done, refl)
   accepted (correct day f) free = (difference (correction o l day f), refl)
   accepted (strike day) free = (done, refl)
@@ -59,7 +59,7 @@ module _ (o : Opening) (law : LawfulOpening o) (l : Ledger) {entries : List Entr
       let t = closed_totalled o law l (so_far h).sound month closed in
       settles o l month (get_or l.closed month no_prices) t.0 t.1
 
-  replied : (r : Request) (g : Option AccountFault) → ground o l r ≡ g → (reply : Reply) × Answered g o l r reply
+  replied : (r : Request) (g : Option AccountFault) → request_ground o l r ≡ g → (reply : Reply) × Answered g o l r reply
   replied r None is = accepted r is
   replied r (Some fault) is = (refused fault, refl)
 
@@ -88,12 +88,12 @@ asking None (an_account order) before led = ordering order (order_ground order) 
 asking None (a_call r) before led = unchanged before None led
 asking (Some held) (an_account order) before led = unchanged before (Some held) led
 asking (Some (o, l)) (a_call r) before led =
-    let reply = replied o led.0 l led.1 r (ground o l r) refl in
+    let reply = replied o led.0 l led.1 r (request_ground o l r) refl in
     record {
       more = (r, reply.0) ∷ [];
       are_calls = refl;
-      led = subst (λ (book : Book). Led book (before ++ (r, reply.0) ∷ [])) (after_turned o l r (ground o l r)) (led.0, history.called r reply.0 led.1 reply.1);
-      charges = sum_one (charge (r, reply.0)) ∙ sym (told_yen r reply.0) ∙ ap yen_in (told_right o l r reply.0 (ground o l r) reply.1);
+      led = subst (λ (book : Book). Led book (before ++ (r, reply.0) ∷ [])) (after_turned o l r (request_ground o l r)) (led.0, history.called r reply.0 led.1 reply.1);
+      charges = sum_one (charge (r, reply.0)) ∙ sym (told_yen r reply.0) ∙ ap yen_in (told_right o l r reply.0 (request_ground o l r) reply.1);
     }
 
 -- slips in order

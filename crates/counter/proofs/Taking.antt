@@ -4,7 +4,7 @@ use Rattle.std.specs.Option.{option_map}
 use Rattle.tariff.specs.Meaning.{Meaning}
 use Rattle.tariff.specs.Steps.{Step}
 use Rattle.account.specs.History.{Reply, refused, done, difference, settled, Answered, charge}
-use Rattle.account.specs.Ledger.{Opening, Ledger, Request, post, correct, strike, draft, close, show, net_in, ground, after}
+use Rattle.account.specs.Ledger.{Opening, Ledger, Request, post, correct, strike, draft, close, show, net_in, request_ground, after}
 use Rattle.account.specs.Ledger as ledger
 use Rattle.account.specs.Replies.{Keeps}
 use Rattle.account.specs.declared.account.Account.{Account}
@@ -45,7 +45,7 @@ module _ {S : Type 0} (whole : S → Meaning) (tables : S → List (List Step)) 
   answers =
       let o = opening_of (whole a.supply) (tables a.supply) a in
       let l = ledger_of a in
-      told_right o l r reply (ground o l r) k.law.answers
+      told_right o l r reply (request_ground o l r) k.law.answers
       ∙ ap (λ (x : Asked). answered (ground_against (Some (o, l)) x) (yen_asked (Some (o, l)) x)) (sym is)
 
   pub turns : ◌≡◌ {A = Book} (Some (entry_of whole tables b)) (turned (Some (entry_of whole tables a)) s)
@@ -54,5 +54,5 @@ module _ {S : Type 0} (whole : S → Meaning) (tables : S → List (List Step)) 
       let l = ledger_of a in
       let leads : ◌≡◌ {A = Book} (Some (entry_of whole tables b)) (Some (o, after o l r)) = λ i. Some (same_opening whole tables a b k.opening i, k.law.ledger i) in
       leads
-      ∙ after_turned o l r (ground o l r)
+      ∙ after_turned o l r (request_ground o l r)
       ∙ ap (λ (x : Asked). unless_refused (ground_against (Some (o, l)) x) (Some (o, l)) (granted (Some (o, l)) x)) (sym is)

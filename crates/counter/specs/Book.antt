@@ -8,7 +8,7 @@ use Rattle.settlement.specs.Boxes.{box_lettered}
 use Rattle.settlement.specs.declared.deposit_box.DepositBox.{DepositBox}
 use Rattle.account.specs.Calendars.{opening_ground}
 use Rattle.account.specs.History.{correction}
-use Rattle.account.specs.Ledger.{Opening, Ledger, empty, Request, post, correct, strike, draft, close, show, ground, done, month_numbers, net_in}
+use Rattle.account.specs.Ledger.{Opening, Ledger, empty, Request, post, correct, strike, draft, close, show, request_ground, done, month_numbers, net_in}
 use Rattle.account.specs.declared.fault.AccountFault.{AccountFault}
 use Rattle.slip.specs.Format.{Slip, Opening as Order}
 use Rattle.slip.specs.Format as slip
@@ -45,7 +45,7 @@ abbrev pub ground_against : Book → Asked → Option CounterFault
 ground_against None (an_account order) = order_ground order
 ground_against None (a_call r) = Some NotOpen
 ground_against (Some held) (an_account order) = Some AlreadyOpen
-ground_against (Some (o, l)) (a_call r) = option_map Account (ground o l r)
+ground_against (Some (o, l)) (a_call r) = option_map Account (request_ground o l r)
 
 abbrev pub counter_ground : Book → Slip → Option CounterFault
 counter_ground book slip = ground_against book (asked slip)

@@ -4,10 +4,12 @@
 ghost use Rattle.std.specs.Prelude.{◌≡◌, IfOk};
 ghost use Rattle.counter.specs.Run.{run_bytes};
 
+use anyhow::anyhow;
 use counter::settle::{room, settle};
 use std::alloc::{AllocError, Global};
 use std::env;
 use std::io::{Read, Write};
+use std::process::ExitCode;
 
 const USAGE: &str = "wanted is no argument; usage: settle < SLIPS > LINES";
 
@@ -24,7 +26,7 @@ fn lines(heap: Global, input: &[u8]) -> Result<Vec<u8>, AllocError>
 fn run(rt: &HostRuntime) -> anyhow::Result<()> {
     let words: Vec<String> = env::args(rt)?.collect(rt.alloc())?;
     if words.len() > 1 {
-        return Err(USAGE.into());
+        return Err(anyhow!(USAGE));
     }
     let mut input = Vec::new(rt.alloc());
     rt.stdin().read_to_end(&mut input)?;
@@ -33,12 +35,12 @@ fn run(rt: &HostRuntime) -> anyhow::Result<()> {
     Ok(())
 }
 
-fn main(rt: HostRuntime) -> anyhow::Result<()> {
+fn main(rt: HostRuntime) -> anyhow::Result<ExitCode> {
     match run(&rt) {
-        Ok(()) => Ok(()),
+        Ok(()) => Ok(ExitCode::SUCCESS),
         Err(wrong) => {
             eprintln!(rt; "settle: {wrong}")?;
-            Err(wrong)
+            Ok(ExitCode::FAILURE)
         }
     }
 }

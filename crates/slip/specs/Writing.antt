@@ -34,8 +34,8 @@ writing_ground s room =
 
 -- where no ground holds, bytes stand at the front of the buffer; where one does, the buffer is as it was
 abbrev pub Put : Option WritingFault → List ℕ → List ℕ → List ℕ → Result ℕ WritingFault → Type 0
-Put ground bytes before after (Ok n) = (ground ≡ None) × (n ≡ length bytes) × (after ≡ bytes ++ drop n before)
-Put ground bytes before after (Err fault) = (ground ≡ Some fault) × (after ≡ before)
+Put against bytes before after (Ok n) = (against ≡ None) × (n ≡ length bytes) × (after ≡ bytes ++ drop n before)
+Put against bytes before after (Err fault) = (against ≡ Some fault) × (after ≡ before)
 
 abbrev pub Written : Slip → List ℕ → List ℕ → Result ℕ WritingFault → Type 0
 Written s before after r = Put (writing_ground s (length before)) (slip_bytes s) before after r

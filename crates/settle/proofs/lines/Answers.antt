@@ -14,5 +14,5 @@ cut input before after more n len settled long =
 pub returns : goal.returns
 returns c =
     let input = c.args.input.now in
-    let settled = subst (Settled input c.deref-mut.result.now c.settle.new.out) c.unwrap-count.ensures c.settle.ensures.run in
-    c.truncate.ensures.items ∙ cut input c.deref-mut.result.now c.settle.new.out _ c.unwrap-count.result _ settled (omega arith)
+    let settled = subst (Settled input c.deref_mut.result.now c.settle.new.out) c.unwrap-count.ensures c.settle.ensures.run in
+    c.truncate.ensures.items ∙ cut input c.deref_mut.result.now c.settle.new.out _ c.unwrap-count.result _ settled (omega arith)
