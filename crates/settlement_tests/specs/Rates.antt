@@ -1,5 +1,5 @@
 -- The made-up supply is lawful.
-use Rattle.std.specs.Prelude.{◌≡◌, ◌<◌, ◌≤◌, Bool, true, cond, length, nat_lt, refl}
+use Rattle.std.specs.Prelude.{◌≡◌, ◌<◌, ◌≤◌, true, cond, length, nat_lt}
 use Rattle.std.proofs.Common.{arith, lit≤, length-take}
 use Rattle.std.proofs.lemmas.Bool.{and_from, cond_both, le-leb}
 use Rattle.tariff.specs.Meaning.{Lawful}
