@@ -1,13 +1,13 @@
 -- An order that is not refused opens a lawful account.
-use Rattle.std.proofs.Common.{◌≡◌, ℕ, suc, ◌+◌, ◌*◌, ◌/◌, ◌≤◌, Bool, true, false, cond, ◌&&◌, eqb, leb, List, length, Some, None, sum, Option, refl, arith, lit≤}
-use Rattle.std.proofs.lemmas.Bool.{and_parts, cond_both, leb-true}
-use Rattle.tariff.specs.Lawful.{lawful-of, night_lawful, seasonal_lawful}
+use Rattle.std.proofs.Common.{◌≡◌, ℕ, suc, ◌+◌, ◌≤◌, Bool, true, false, cond, ◌&&◌, eqb, leb, List, length, Some, None, sum, Option, refl, arith}
+use Rattle.std.proofs.lemmas.Bool.{and_parts, leb-true}
+use Rattle.tariff.specs.Lawful.{standard_lawful, night_lawful, seasonal_lawful}
 use Rattle.tariff.specs.Percent.{supply_kept}
 use Rattle.tariff.specs.Calendar.{last_day}
 use Rattle.tariff.specs.Discount.{is_percent}
 use Rattle.tariff.specs.Meaning.{Lawful}
 use Rattle.tariff.specs.Plans.{numbered, numbered_tables}
-use Rattle.tariff.specs.Tariffs.{is_capacity, standard, standard_class, standard_tables, night, night_tables, seasonal, seasonal_tables}
+use Rattle.tariff.specs.Tariffs.{is_capacity, standard, standard_tables, night, night_tables, seasonal, seasonal_tables}
 use Rattle.tariff.specs.declared.fault.PlanFault.{PlanFault}
 use Rattle.settlement.specs.Boxes.{box_lettered}
 use Rattle.settlement.specs.declared.deposit_box.DepositBox.{DepositBox}
@@ -18,13 +18,6 @@ use Rattle.account.specs.Ledger.{LawfulOpening}
 use Rattle.account.specs.declared.fault.AccountFault.{AccountFault}
 use Rattle.slip.specs.Format.{Opening as Order}
 use Rattle.counter.specs.Book.{either_ground, order_ground, ordered}
-
-standard_lawful : (capacity : ℕ) → capacity ≤ 49 → Lawful (standard capacity) standard_tables
-standard_lawful capacity h = record {
-  tariff = lawful-of standard_class standard_tables (lit≤ tt) (lit≤ tt) (refl, tt) (λ d rest half-hour. lit≤ tt);
-  basic_bound = λ used. cond_both used (28600 * capacity) (28600 * capacity / 2) (λ n. n ≤ 2000000) (λ _. omega arith) (λ _. omega arith);
-  minimum_bound = lit≤ tt;
-}
 
 numbered_lawful : (tariff capacity : ℕ) → capacity ≤ 49 → Lawful (numbered tariff capacity) (numbered_tables tariff)
 numbered_lawful tariff capacity h =

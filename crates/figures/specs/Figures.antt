@@ -58,7 +58,7 @@ Holds (credit m figure) = option_map (unrounded m) (settled m) ≡ Some figure
 Holds (charges m figure) = option_map (λ n. n.charges) (settled m) ≡ Some figure
 Holds (part percent price figure) = percent_of percent price ≡ figure
 Holds (box_fee box surplus figure) = fee box (whole_kwh surplus) ≡ figure
-Holds (class_at day half-hour figure) = (seasonal 10).tariff.class day false half-hour ≡ Some figure
+Holds (class_at day half_hour figure) = (seasonal 10).tariff.class day false half_hour ≡ Some figure
 Holds (fuel_price area a b c figure) = fuel_of area a b c ≡ Ok figure
 
 abbrev pub no_prices : MonthPrices

@@ -21,12 +21,12 @@ figures_sum xs e i =
     let short : length (take i xs) ≤ i = simp length-take (omega arith) in
     omega (arith, sum_by_le (λ x. x) 2500 (take i xs) (All-take (λ x. x ≤ 2500) i xs (figures_low xs e)), mul-le-mul_right 2500 short)
 
-in_class_push : (class_of : ℕ → Option ℕ) (class half-hour : ℕ) (xs : List ℕ) (x : ℕ) → in_class class_of class half-hour (xs ++ x ∷ []) ≡ in_class class_of class half-hour xs + cond (of_class (class_of (half-hour + length xs)) class) x 0
-in_class_push class_of class half-hour [] x = let at = ap (λ h. cond (of_class (class_of h) class) x 0) (add-zero half-hour) in omega arith
-in_class_push class_of class half-hour (y ∷ xs) x =
-    let at : suc half-hour + length xs ≡ half-hour + suc (length xs) = omega arith in
+in_class_push : (class_of : ℕ → Option ℕ) (class half_hour : ℕ) (xs : List ℕ) (x : ℕ) → in_class class_of class half_hour (xs ++ x ∷ []) ≡ in_class class_of class half_hour xs + cond (of_class (class_of (half_hour + length xs)) class) x 0
+in_class_push class_of class half_hour [] x = let at = ap (λ h. cond (of_class (class_of h) class) x 0) (add-zero half_hour) in omega arith
+in_class_push class_of class half_hour (y ∷ xs) x =
+    let at : suc half_hour + length xs ≡ half_hour + suc (length xs) = omega arith in
     let here = ap (λ h. cond (of_class (class_of h) class) x 0) at in
-    omega (arith, in_class_push class_of class (suc half-hour) xs x)
+    omega (arith, in_class_push class_of class (suc half_hour) xs x)
 
 -- one half-hour more adds to the sum of its class
 in_class_more : (class_of : ℕ → Option ℕ) (class : ℕ) (xs : List ℕ) (i : ℕ) → i < length xs → in_class class_of class 0 (take (i + 1) xs) ≡ in_class class_of class 0 (take i xs) + cond (of_class (class_of i) class) (get_or xs i 0) 0
@@ -118,9 +118,9 @@ numbered_push first (x ∷ readings) r =
     ap (λ (rest : List (ℕ × Figures)). (first, x) ∷ rest) (numbered_push (suc first) readings r ∙ ap (λ (n : ℕ). numbered (suc first) readings ++ (n, r) ∷ []) at)
 
 -- the class of a half-hour is one of the tariff's, which are at most four
-pub one_of_four : (m : TariffMeaning) (tables : List (List Step)) (n : ℕ) → LawfulTariff m tables → m.classes ≡ n → (day : ℕ) (rest : Bool) (half-hour k : ℕ) → Some k ≡ m.class day rest half-hour → (k < n) × (n ≤ 4)
-one_of_four m tables n law kind day rest half-hour k is =
-    (omega (arith, class_within m tables law day rest half-hour k (sym is)), omega (arith, law.few_classes))
+pub one_of_four : (m : TariffMeaning) (tables : List (List Step)) (n : ℕ) → LawfulTariff m tables → m.classes ≡ n → (day : ℕ) (rest : Bool) (half_hour k : ℕ) → Some k ≡ m.class day rest half_hour → (k < n) × (n ≤ 4)
+one_of_four m tables n law kind day rest half_hour k is =
+    (omega (arith, class_within m tables law day rest half_hour k (sym is)), omega (arith, law.few_classes))
 
 -- before the first day all sums are 0
 pub sum_zeros : (n k : ℕ) → sum (take n (replicate k 0)) ≡ 0

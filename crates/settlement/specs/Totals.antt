@@ -24,8 +24,8 @@ of_class (Some answered) class = answered == class
 
 -- the sum of a day's figures in half-hours of a class, from a half-hour on
 abbrev pub in_class : (ℕ → Option ℕ) → ℕ → ℕ → List ℕ → ℕ
-in_class class_of class half-hour [] = 0
-in_class class_of class half-hour (x ∷ xs) = cond (of_class (class_of half-hour) class) x 0 + in_class class_of class (suc half-hour) xs
+in_class class_of class half_hour [] = 0
+in_class class_of class half_hour (x ∷ xs) = cond (of_class (class_of half_hour) class) x 0 + in_class class_of class (suc half_hour) xs
 
 -- the energy used in a class on a day, given by its number and reading
 abbrev pub day_in_class : TariffMeaning → ℕ → ℕ × Figures → ℕ

@@ -10,4 +10,4 @@ abbrev pub rate_tables : Rates → List (List Step)
 rate_tables t = steps_of t.morning ∷ steps_of t.afternoon ∷ []
 
 abbrev pub rates : Rates → Meaning
-rates t = record { tariff = tariff_of (λ date rest half-hour. cond (nat_lt half-hour 24) 0 1) (rate_tables t); basic = λ used. 0; minimum = 0 }
+rates t = record { tariff = tariff_of (λ date rest half_hour. cond (nat_lt half_hour 24) 0 1) (rate_tables t); basic = λ used. 0; minimum = 0 }

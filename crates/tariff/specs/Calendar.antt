@@ -64,4 +64,4 @@ last_day = 36524
 
 -- whether a day number and a half-hour exist
 abbrev pub on_calendar : ℕ → ℕ → Bool
-on_calendar day half-hour = nat_le day last_day && nat_lt half-hour 48
+on_calendar day half_hour = nat_le day last_day && nat_lt half_hour 48

@@ -26,8 +26,8 @@ pub record LawfulTariff (m : TariffMeaning) (tables : List (List Step)) : Type 0
   pub few_classes : m.classes ≤ 4
   pub a_table_each : length tables ≡ m.classes
   pub tables_right : AllByRecursion (λ table. right_table table ≡ true) tables
-  pub class_known : (day : ℕ) (rest : Bool) (half-hour : ℕ) → on_calendar day half-hour ≡ true → IsClass m.classes (m.class day rest half-hour)
-  pub class_none : (day : ℕ) (rest : Bool) (half-hour : ℕ) → on_calendar day half-hour ≡ false → m.class day rest half-hour ≡ None
+  pub class_known : (day : ℕ) (rest : Bool) (half_hour : ℕ) → on_calendar day half_hour ≡ true → IsClass m.classes (m.class day rest half_hour)
+  pub class_none : (day : ℕ) (rest : Bool) (half_hour : ℕ) → on_calendar day half_hour ≡ false → m.class day rest half_hour ≡ None
   pub priced_by_steps : (class k : ℕ) → m.price class k ≡ price_of tables class k
 
 -- What holds of every supply.

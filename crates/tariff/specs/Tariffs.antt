@@ -8,13 +8,13 @@ use Rattle.tariff.specs.Steps.{Step, price_of}
 abbrev pub tariff_of : (Date → Bool → ℕ → ℕ) → List (List Step) → TariffMeaning
 tariff_of class tables = record {
   classes = length tables;
-  class = λ day rest half-hour. cond (on_calendar day half-hour) (Some (class (date day) rest half-hour)) None;
+  class = λ day rest half_hour. cond (on_calendar day half_hour) (Some (class (date day) rest half_hour)) None;
   price = price_of tables;
 }
 
 -- whether a half-hour lies between two hours of the clock
 abbrev pub between : ℕ → ℕ → ℕ → Bool
-between from to half-hour = nat_le (2 * from) half-hour && nat_lt half-hour (2 * to)
+between from to half_hour = nat_le (2 * from) half_hour && nat_lt half_hour (2 * to)
 
 -- the basic charge is halved in a month without any use
 abbrev pub halved_unless : Bool → ℕ → ℕ
@@ -33,7 +33,7 @@ abbrev pub standard_tables : List (List Step)
 standard_tables = standard_steps ∷ []
 
 abbrev pub standard_class : Date → Bool → ℕ → ℕ
-standard_class date rest half-hour = 0
+standard_class date rest half_hour = 0
 
 abbrev pub standard : ℕ → Meaning
 standard capacity = record {
@@ -51,7 +51,7 @@ abbrev pub night_tables : List (List Step)
 night_tables = day_steps ∷ ((None, 1248) ∷ []) ∷ []
 
 abbrev pub night_class : Date → Bool → ℕ → ℕ
-night_class date rest half-hour = cond (between 7 23 half-hour) 0 1
+night_class date rest half_hour = cond (between 7 23 half_hour) 0 1
 
 abbrev pub night : ℕ → Meaning
 night capacity = record {
@@ -66,9 +66,9 @@ abbrev pub seasonal_tables : List (List Step)
 seasonal_tables = ((None, 3853) ∷ []) ∷ ((None, 3011) ∷ []) ∷ ((None, 2736) ∷ []) ∷ ((None, 1553) ∷ []) ∷ []
 
 abbrev pub seasonal_class : Date → Bool → ℕ → ℕ
-seasonal_class date rest half-hour =
-    cond (summer date && (not (rest_day date rest) && between 13 16 half-hour)) 0
-    (cond (between 8 22 half-hour) (cond (summer date) 1 2) 3)
+seasonal_class date rest half_hour =
+    cond (summer date && (not (rest_day date rest) && between 13 16 half_hour)) 0
+    (cond (between 8 22 half_hour) (cond (summer date) 1 2) 3)
 
 abbrev pub seasonal : ℕ → Meaning
 seasonal capacity = record {

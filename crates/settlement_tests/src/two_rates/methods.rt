@@ -1,6 +1,6 @@
 ghost use Rattle.settlement_tests.specs.TwoRates.{rates, rate_tables};
 ghost use Rattle.settlement_tests.specs.Rates.{rates_lawful};
-ghost use Rattle.std.proofs.Common.{rules};
+ghost use Rattle.std.specs.Prelude.{refl};
 
 use super::TwoRates;
 use tariff::supply::{Supply, Tariff};
@@ -14,7 +14,7 @@ impl Tariff for TwoRates {
 
     ghost tables = { rate_tables };
 
-    ghost kind = { Prim.search rules };
+    ghost kind = { λ _. refl };
 
     ghost lawful = { λ t. (rates_lawful t).tariff };
 
@@ -45,7 +45,7 @@ impl Tariff for TwoRates {
 impl Supply for TwoRates {
     ghost whole = { rates };
 
-    ghost tariff = { Prim.search rules };
+    ghost tariff = { λ _. refl };
 
     ghost bound = { λ t. rates_lawful t };
 

@@ -1,7 +1,7 @@
 ghost use Rattle.std.specs.Prelude.{◌≡◌, ◌≤◌, true, false, Ok, Err};
+ghost use Rattle.std.proofs.Common.{ap};
 ghost use Rattle.tariff.specs.Discount.{is_percent, percent_of, discounted, discounted_tariff, discounted_tables, DiscountHolds};
 ghost use Rattle.tariff.specs.Percent.{tariff_kept, supply_kept};
-ghost use Rattle.std.proofs.Common.{rules, arith};
 
 use super::{Discount, Undiscounted};
 use crate::fault::PlanFault;
@@ -41,7 +41,7 @@ impl<T: Tariff> Tariff for Discount<T> {
 
     ghost tables = { λ d. discounted_tables d.percent (T.Tariff.tables d.supply) };
 
-    ghost kind = { first_of (Prim.search rules, Prim.grind (arith, Self.row.coded.inj)) };
+    ghost kind = { λ d. T.Tariff.kind d.supply };
 
     ghost lawful = { λ d. tariff_kept d.percent d.part.1 _ _ (T.Tariff.lawful d.supply) };
 
@@ -62,7 +62,7 @@ impl<T: Tariff> Tariff for Discount<T> {
 impl<S: Supply> Supply for Discount<S> {
     ghost whole = { λ d. discounted d.percent (S.Supply.whole d.supply) };
 
-    ghost tariff = { first_of (Prim.search rules, Prim.grind (arith, Self.row.coded.inj)) };
+    ghost tariff = { λ d. ap (discounted_tariff d.percent) (S.Supply.tariff d.supply) };
 
     ghost bound = { λ d. supply_kept d.percent d.part.1 _ _ (S.Supply.bound d.supply) };
 

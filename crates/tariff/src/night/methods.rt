@@ -1,7 +1,6 @@
-ghost use Rattle.std.specs.Prelude.{◌≡◌, true, false, Ok, Err};
+ghost use Rattle.std.specs.Prelude.{◌≡◌, true, false, Ok, Err, refl};
 ghost use Rattle.tariff.specs.Tariffs.{is_capacity, night, night_tables};
 ghost use Rattle.tariff.specs.Lawful.{night_lawful};
-ghost use Rattle.std.proofs.Common.{rules, arith};
 
 use super::Night;
 use crate::fault::PlanFault;
@@ -33,7 +32,7 @@ impl Tariff for Night {
 
     ghost tables = { λ _. night_tables };
 
-    ghost kind = { first_of (Prim.search rules, Prim.grind (arith, Self.row.coded.inj)) };
+    ghost kind = { λ _. refl };
 
     ghost lawful = { λ t. (night_lawful t.capacity t.sized.1).tariff };
 
@@ -64,7 +63,7 @@ impl Tariff for Night {
 impl Supply for Night {
     ghost whole = { λ s. night s.capacity };
 
-    ghost tariff = { first_of (Prim.search rules, Prim.grind (arith, Self.row.coded.inj)) };
+    ghost tariff = { λ _. refl };
 
     ghost bound = { λ s. night_lawful s.capacity s.sized.1 };
 

@@ -1,7 +1,6 @@
-ghost use Rattle.std.specs.Prelude.{◌≡◌, true, false, Ok, Err};
+ghost use Rattle.std.specs.Prelude.{◌≡◌, true, false, Ok, Err, refl};
 ghost use Rattle.tariff.specs.Tariffs.{is_capacity, seasonal, seasonal_tables};
 ghost use Rattle.tariff.specs.Lawful.{seasonal_lawful};
-ghost use Rattle.std.proofs.Common.{rules, arith};
 
 use super::Seasonal;
 use crate::day::Day;
@@ -36,7 +35,7 @@ impl Tariff for Seasonal {
 
     ghost tables = { λ _. seasonal_tables };
 
-    ghost kind = { first_of (Prim.search rules, Prim.grind (arith, Self.row.coded.inj)) };
+    ghost kind = { λ _. refl };
 
     ghost lawful = { λ t. (seasonal_lawful t.capacity t.sized.1).tariff };
 
@@ -69,7 +68,7 @@ impl Tariff for Seasonal {
 impl Supply for Seasonal {
     ghost whole = { λ s. seasonal s.capacity };
 
-    ghost tariff = { first_of (Prim.search rules, Prim.grind (arith, Self.row.coded.inj)) };
+    ghost tariff = { λ _. refl };
 
     ghost bound = { λ s. seasonal_lawful s.capacity s.sized.1 };
 

@@ -1,6 +1,6 @@
-ghost use Rattle.std.specs.Prelude.{◌≡◌, true, false, Ok, Err};
+ghost use Rattle.std.specs.Prelude.{◌≡◌, true, false, Ok, Err, refl};
 ghost use Rattle.tariff.specs.Tariffs.{is_capacity, standard, standard_tables};
-ghost use Rattle.std.proofs.Common.{rules, arith};
+ghost use Rattle.tariff.specs.Lawful.{standard_lawful};
 
 use super::Standard;
 use crate::fault::PlanFault;
@@ -31,9 +31,9 @@ impl Tariff for Standard {
 
     ghost tables = { λ _. standard_tables };
 
-    ghost kind = { first_of (Prim.search rules, Prim.grind (arith, Self.row.coded.inj)) };
+    ghost kind = { λ _. refl };
 
-    ghost lawful = { first_of (Prim.search rules, Prim.grind (arith, Self.row.coded.inj)) };
+    ghost lawful = { λ t. (standard_lawful t.capacity t.sized.1).tariff };
 
     fn class_count() -> u8 {
         Standard::CLASSES
@@ -57,9 +57,9 @@ impl Tariff for Standard {
 impl Supply for Standard {
     ghost whole = { λ s. standard s.capacity };
 
-    ghost tariff = { first_of (Prim.search rules, Prim.grind (arith, Self.row.coded.inj)) };
+    ghost tariff = { λ _. refl };
 
-    ghost bound = { first_of (Prim.search rules, Prim.grind (arith, Self.row.coded.inj)) };
+    ghost bound = { λ s. standard_lawful s.capacity s.sized.1 };
 
     fn basic(&self, used: bool) -> u32 {
         let full = 28_600 * u32::from(self.capacity);
