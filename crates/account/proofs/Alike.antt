@@ -7,7 +7,7 @@ use Rattle.settlement.specs.Settling.{MonthPrices, numbers}
 use Rattle.settlement.specs.Totals.{Figures, MonthTotals, gathered}
 use Rattle.settlement.specs.declared.deposit_box.DepositBox.{DepositBox}
 use Rattle.settlement.proofs.Months.{Shared, gathered_whole, charges_alike}
-use Rattle.account.specs.History.{sumZ, closed_nets}
+use Rattle.account.specs.History.{int_sum, closed_nets}
 use Rattle.account.specs.Ledger.{Opening, OpenedAlike, Ledger, month_start, closed_days, month_readings, net_in, no_prices}
 use Rattle.account.proofs.MonthDays.{month_ends}
 use Rattle.account.proofs.Nets.{map_same, same_readings, net}
@@ -26,7 +26,7 @@ module _ (o : Opening) (others : List (List Step)) (law : Lawful o.meaning o.tab
   k = record { standing = standing; closed = l.closed }
 
   nets_by_tables : closed_nets p k ≡ closed_nets o l
-  nets_by_tables = ap sumZ (map_same (net p k) (net o l) 0 (length l.closed) (λ month ge lt.
+  nets_by_tables = ap int_sum (map_same (net p k) (net o l) 0 (length l.closed) (λ month ge lt.
       let m = o.meaning.tariff in
       let from = o.first + month_start o month in
       let prices = get_or l.closed month no_prices in

@@ -9,7 +9,7 @@ use Rattle.std.specs.List.{range_with_len}
 use Rattle.std.specs.Option.{option_map}
 use Rattle.settlement.specs.Settling.{MonthPrices, numbers}
 use Rattle.settlement.specs.Totals.{Figures, gathered}
-use Rattle.account.specs.History.{sumZ, closed_nets}
+use Rattle.account.specs.History.{int_sum, closed_nets}
 use Rattle.account.specs.Ledger.{Opening, Ledger, days, month_start, month_length, month_of_day, closed_days, month_readings, month_numbers, closed_numbers, net_in, no_prices, with_standing}
 use Rattle.account.proofs.MonthDays.{month_known, one_month, before_month}
 
@@ -20,16 +20,16 @@ map_same f g a (suc n) same =
     let rest = map_same f g (a + 1) n (λ k le lt. same k (omega arith) (omega arith)) in
     λ i. here i ∷ rest i
 
-pub sum_ℤ-push : (xs : List ℤ) (y : ℤ) → sumZ (xs ++ y ∷ []) ≡ sumZ xs +ℤ y
-sum_ℤ-push [] y = omega (arith, ints)
-sum_ℤ-push (x ∷ xs) y = let others = sum_ℤ-push xs y in omega (arith, ints)
+pub int_sum-push : (xs : List ℤ) (y : ℤ) → int_sum (xs ++ y ∷ []) ≡ int_sum xs +ℤ y
+int_sum-push [] y = omega (arith, ints)
+int_sum-push (x ∷ xs) y = let others = int_sum-push xs y in omega (arith, ints)
 
 -- a sum changes by the change of the one number that changes
-changed_at : (f g : ℕ → ℤ) (a n k : ℕ) → a ≤ k → k < a + n → ((j : ℕ) → a ≤ j → j < a + n → (j ≡ k → ⊥) → g j ≡ f j) → sumZ (map g (range_with_len a n)) ≡ sumZ (map f (range_with_len a n)) +ℤ (g k -ℤ f k)
+changed_at : (f g : ℕ → ℤ) (a n k : ℕ) → a ≤ k → k < a + n → ((j : ℕ) → a ≤ j → j < a + n → (j ≡ k → ⊥) → g j ≡ f j) → int_sum (map g (range_with_len a n)) ≡ int_sum (map f (range_with_len a n)) +ℤ (g k -ℤ f k)
 changed_at f g a zero k le lt same = absurd (omega arith)
 changed_at f g a (suc n) k le lt same = elim (cases_eq a k) [
   | inl here ↦
-      let others = ap sumZ (map_same g f (a + 1) n (λ j ge below. same j (omega arith) (omega arith) (λ e. omega arith))) in
+      let others = ap int_sum (map_same g f (a + 1) n (λ j ge below. same j (omega arith) (omega arith) (λ e. omega arith))) in
       let new = ap g here in
       let old = ap f here in
       omega (arith, ints)
@@ -69,7 +69,7 @@ module _ (o : Opening) (l : Ledger) (day : ℕ) (reading : Option Figures) (few 
         let mine = (before_month o day (length l.closed) within few).0 lt in
         rw (lt-ltb day (closed_days o l) lt) (changed_at (net o l) (net o next) 0 (length l.closed) own (omega arith) (omega arith) (λ month ge below apart. net_apart month (omega arith) apart))
     | inr le ↦
-        let same = ap sumZ (map_same (net o next) (net o l) 0 (length l.closed) (λ month ge below. net_apart month (omega arith) (λ e. omega (arith, (before_month o day (length l.closed) within few).1 (omega arith))))) in
+        let same = ap int_sum (map_same (net o next) (net o l) 0 (length l.closed) (λ month ge below. net_apart month (omega arith) (λ e. omega (arith, (before_month o day (length l.closed) within few).1 (omega arith))))) in
         rw (le-ltb day (closed_days o l) le) (omega (arith, ints))
   ]
 
@@ -80,8 +80,8 @@ nets_closed o l p =
     let longer = l.closed ++ p ∷ [] in
     let at : ℕ → MonthPrices → ℤ = λ month prices. net_in (month_numbers o l month prices) in
     let after : ℕ → ℤ = λ month. at month (get_or longer month no_prices) in
-    ap (λ many. sumZ (map after (range_with_len 0 many))) (length_push l.closed p)
-    ∙ ap sumZ (map-range_with_len_more after 0 n n (omega arith))
-    ∙ sum_ℤ-push (map after (range_with_len 0 n)) (after n)
-    ∙ ap (λ s. s +ℤ after n) (ap sumZ (map_same after (net o l) 0 n (λ month ge lt. ap (at month) (get_or_append_left l.closed (p ∷ []) no_prices month (omega arith)))))
+    ap (λ many. int_sum (map after (range_with_len 0 many))) (length_push l.closed p)
+    ∙ ap int_sum (map-range_with_len_more after 0 n n (omega arith))
+    ∙ int_sum-push (map after (range_with_len 0 n)) (after n)
+    ∙ ap (λ s. s +ℤ after n) (ap int_sum (map_same after (net o l) 0 n (λ month ge lt. ap (at month) (get_or_append_left l.closed (p ∷ []) no_prices month (omega arith)))))
     ∙ ap (λ x. closed_nets o l +ℤ x) (ap (at n) (get_or_push l.closed p no_prices n refl))

@@ -6,14 +6,14 @@ use Rattle.std.proofs.lemmas.Int.{ints}
 use Rattle.std.proofs.lemmas.Bool.{both_ways, cases_eq, cases_lt, eq-eqb, le-ltb, cond-false}
 use Rattle.settlement.specs.Settling.{MonthPrices}
 use Rattle.settlement.specs.Totals.{Figures, MonthTotals}
-use Rattle.account.specs.History.{Reply, refused, Answered, Answers, Accepted, Entry, History, opened, called, charge, charged, sumZ, closed_nets, Upheld, Kept}
+use Rattle.account.specs.History.{Reply, refused, Answered, Answers, Accepted, Entry, History, opened, called, charge, charged, int_sum, closed_nets, Upheld, Kept}
 use Rattle.account.specs.Law.{Law}
 use Rattle.account.specs.Ledger.{Opening, LawfulOpening, Ledger, empty, days, month_start, month_length, month_of_day, month_totals, month_numbers, closed_days, net_in, Request, post, correct, strike, draft, close, show, request_ground, with_standing, done, unless_refused, after}
 use Rattle.account.specs.declared.fault.AccountFault.{AccountFault}
 use Rattle.account.proofs.Alike.{nets_alike}
 use Rattle.account.proofs.Complete.{Stand, none_missing, totalled, shown_right}
 use Rattle.account.proofs.MonthDays.{start_more, month_ends}
-use Rattle.account.proofs.Nets.{sum_ℤ-push, net, nets_changed, nets_closed}
+use Rattle.account.proofs.Nets.{int_sum-push, net, nets_changed, nets_closed}
 use Rattle.account.proofs.Unrefused.{passed, entered, struck, completed}
 
 -- no more months are closed than there are, and each of their days stands
@@ -115,8 +115,8 @@ so_far {o} (called {entries} {l} r reply h a) =
     record {
       sound = step.sound;
       adds_up =
-          ap sumZ (map_push charge entries (r, reply))
-          ∙ sum_ℤ-push (map charge entries) (charge (r, reply))
+          ap int_sum (map_push charge entries (r, reply))
+          ∙ int_sum-push (map charge entries) (charge (r, reply))
           ∙ ap (λ x. x +ℤ charge (r, reply)) before.adds_up
           ∙ sym step.adds;
     }

@@ -66,16 +66,16 @@ charge (strike day, reply) = pos 0
 charge (draft p, reply) = pos 0
 charge (show month, reply) = pos 0
 
-abbrev pub sumZ : List ℤ → ℤ
-sumZ [] = pos 0
-sumZ (x ∷ xs) = x +ℤ sumZ xs
+abbrev pub int_sum : List ℤ → ℤ
+int_sum [] = pos 0
+int_sum (x ∷ xs) = x +ℤ int_sum xs
 
 abbrev pub charged : List Entry → ℤ
-charged entries = sumZ (map charge entries)
+charged entries = int_sum (map charge entries)
 
 -- the nets of the closed months at the readings now standing, each at its own prices
 abbrev pub closed_nets : Opening → Ledger → ℤ
-closed_nets o l = sumZ (map (λ month. net_in (closed_numbers o l month)) (range_with_len 0 (length l.closed)))
+closed_nets o l = int_sum (map (λ month. net_in (closed_numbers o l month)) (range_with_len 0 (length l.closed)))
 
 -- a closed month as it may be shown: it splits its surplus, deposits the smallest of surplus, usage and the box's
 -- limit, and no other choice of as many used kWh is worth more

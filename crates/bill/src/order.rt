@@ -123,7 +123,8 @@ impl<'a> Order<'a> {
     }
 
     pub fn plan(&self, heap: Global) -> anyhow::Result<Plan>
-        ensures { IfOk result (λ p. (plan_meaning p ≡ discounted self.now.percent (numbered self.now.tariff self.now.capacity)) × (plan_tables p ≡ discounted_tables self.now.percent (numbered_tables self.now.tariff)) × (kind_of p ≡ kind_numbered self.now.tariff)) }
+        ensures meaning { IfOk result (λ p. (plan_meaning p ≡ discounted self.now.percent (numbered self.now.tariff self.now.capacity)) × (plan_tables p ≡ discounted_tables self.now.percent (numbered_tables self.now.tariff))) }
+        ensures kind { IfOk result (λ p. kind_of p ≡ kind_numbered self.now.tariff) }
     {
         match Plan::new(self.tariff, self.capacity, self.percent) {
             Ok(plan) => Ok(plan),

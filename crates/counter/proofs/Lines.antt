@@ -1,7 +1,7 @@
 -- The lines of a run.
 use Rattle.std.proofs.Common.{◌≡◌, ℕ, zero, suc, ◌+◌, ◌≤◌, List, [], ◌∷◌, ◌++◌, map, length, get_or, ℤ, ◌+ℤ◌, None, Ok, Err, Result, sym, refl, ap, ◌∙◌, arith, length-append}
 use Rattle.std.proofs.lemmas.Int.{ints}
-use Rattle.account.specs.History.{sumZ}
+use Rattle.account.specs.History.{int_sum}
 use Rattle.line.specs.declared.line.Line.{Line}
 use Rattle.line.specs.declared.line.Outcome.{Outcome}
 use Rattle.slip.specs.Exact.{Exact}
@@ -96,13 +96,13 @@ shown_yen number letter (Ok yen) = refl
 shown_yen number letter (Err fault) = refl
 
 yen_then : (following : Book → List ℕ → List Line) (slips : List ℕ → List Slip) (number first : ℕ) (book : Book) (r : Result (Slip × List ℕ) SlipFault)
-    → ((book : Book) (rest : List ℕ) → sumZ (map yen_on (following book rest)) ≡ sumZ (map yen_in (outcomes book (slips rest))))
-    → sumZ (map yen_on (line_then following number first book r)) ≡ sumZ (map yen_in (outcomes book (slip_then slips r)))
+    → ((book : Book) (rest : List ℕ) → int_sum (map yen_on (following book rest)) ≡ int_sum (map yen_in (outcomes book (slips rest))))
+    → int_sum (map yen_on (line_then following number first book r)) ≡ int_sum (map yen_in (outcomes book (slip_then slips r)))
 yen_then following slips number first book (Ok (slip, rest)) same =
     λ i. shown_yen number first (outcome book slip) i +ℤ same (turned book slip) rest i
 yen_then following slips number first book (Err fault) same = omega (arith, ints)
 
-lines_yen : (left number : ℕ) (book : Book) (bs : List ℕ) → sumZ (map yen_on (lines left number book bs)) ≡ sumZ (map yen_in (outcomes book (slips_read left bs)))
+lines_yen : (left number : ℕ) (book : Book) (bs : List ℕ) → int_sum (map yen_on (lines left number book bs)) ≡ int_sum (map yen_in (outcomes book (slips_read left bs)))
 unfolding lines slips_read
 lines_yen zero number book bs = refl
 lines_yen (suc left) number book [] = refl

@@ -9,7 +9,7 @@ use Rattle.settlement.specs.Totals.{MonthTotals}
 use Rattle.account.proofs.Complete.{open_totalled}
 use Rattle.account.proofs.Unrefused.{needed}
 use Rattle.account.proofs.Upholding.{so_far, closed_totalled, upheld, charge_refused}
-use Rattle.account.specs.History.{Reply, refused, done, difference, settled, Entry, History, opened, Settles, Answered, Accepted, charge, charged, sumZ, correction}
+use Rattle.account.specs.History.{Reply, refused, done, difference, settled, Entry, History, opened, Settles, Answered, Accepted, charge, charged, int_sum, correction}
 use Rattle.account.specs.History as history
 use Rattle.account.specs.Ledger.{Opening, LawfulOpening, Ledger, empty, Request, post, correct, strike, draft, close, show, request_ground, no_prices, month_totals, month_numbers}
 use Rattle.account.specs.declared.fault.AccountFault.{AccountFault}
@@ -21,16 +21,16 @@ use Rattle.counter.specs.declared.fault.CounterFault.{CounterFault}
 use Rattle.counter.proofs.Ordered.{order_lawful}
 use Rattle.counter.proofs.Taking.{told, told_right, after_turned}
 
-sum_ℤ-append : (xs ys : List ℤ) → sumZ (xs ++ ys) ≡ sumZ xs +ℤ sumZ ys
-sum_ℤ-append [] ys = omega (arith, ints)
-sum_ℤ-append (x ∷ xs) ys = let others = sum_ℤ-append xs ys in omega (arith, ints)
+int_sum-append : (xs ys : List ℤ) → int_sum (xs ++ ys) ≡ int_sum xs +ℤ int_sum ys
+int_sum-append [] ys = omega (arith, ints)
+int_sum-append (x ∷ xs) ys = let others = int_sum-append xs ys in omega (arith, ints)
 
 -- what a book stands on: a history of calls from a lawful opening on, or none
 abbrev Led : Book → List Entry → Type 0
 Led None entries = entries ≡ []
 Led (Some (o, l)) entries = LawfulOpening o × History o entries l
 
-sum_one : (x : ℤ) → sumZ (x ∷ []) ≡ x
+sum_one : (x : ℤ) → int_sum (x ∷ []) ≡ x
 sum_one x = omega (arith, ints)
 
 -- what slips add to a history
@@ -97,7 +97,7 @@ asking (Some (o, l)) (a_call r) before led =
     }
 
 -- slips in order
-running : (slips : List Slip) (book : Book) (before : List Entry) → Led book before → Added before (book_after book slips) (calls_made book slips) (sumZ (map yen_in (outcomes book slips)))
+running : (slips : List Slip) (book : Book) (before : List Entry) → Led book before → Added before (book_after book slips) (calls_made book slips) (int_sum (map yen_in (outcomes book slips)))
 running [] book before led = unchanged before book led
 running (slip ∷ slips) book before led =
     let first = asking book (asked slip) before led in
@@ -106,7 +106,7 @@ running (slip ∷ slips) book before led =
       more = first.more ++ rest.more;
       are_calls = map-append called first.more rest.more ∙ (λ i. first.are_calls i ++ rest.are_calls i);
       led = subst (Led (book_after (turned book slip) slips)) (append_assoc before first.more rest.more) rest.led;
-      charges = ap sumZ (map-append charge first.more rest.more) ∙ sum_ℤ-append (map charge first.more) (map charge rest.more) ∙ (λ i. first.charges i +ℤ rest.charges i);
+      charges = ap int_sum (map-append charge first.more rest.more) ∙ int_sum-append (map charge first.more) (map charge rest.more) ∙ (λ i. first.charges i +ℤ rest.charges i);
     }
 
 pub run_kept : RunKept

@@ -1,6 +1,6 @@
 -- Slips taken one after another from an empty book, and the law of every such run.
 use Rattle.std.specs.Prelude.{◌≡◌, List, [], ◌∷◌, ◌++◌, map, ℤ, pos, Some, None, Ok, Err, Result}
-use Rattle.account.specs.History.{Entry, History, Upheld, sumZ, closed_nets}
+use Rattle.account.specs.History.{Entry, History, Upheld, int_sum, closed_nets}
 use Rattle.account.specs.Ledger.{Opening, Ledger, Request}
 use Rattle.slip.specs.Format.{Slip}
 use Rattle.counter.specs.Book.{Book, Asked, an_account, a_call, asked, turned, outcome}
@@ -41,7 +41,7 @@ pub record Accounted (slips : List Slip) (o : Opening) (l : Ledger) : Type 0 whe
   pub every_call : map called entries ≡ calls_made None slips
   pub history : History o entries l
   pub upheld : Upheld o entries l
-  pub yen_add_up : sumZ (map yen_in (outcomes None slips)) ≡ closed_nets o l
+  pub yen_add_up : int_sum (map yen_in (outcomes None slips)) ≡ closed_nets o l
 
 -- every account that slips lead to
 abbrev pub RunKept : Type 0

@@ -1,6 +1,6 @@
 -- A run: the slips of an input taken one after another, and the lines that it writes.
 use Rattle.std.specs.Prelude.{◌≡◌, ℕ, zero, suc, ◌+◌, ◌*◌, ◌<◌, ◌≤◌, min, List, [], ◌∷◌, ◌++◌, map, length, drop, ℤ, pos, Some, None, Ok, Err, Result}
-use Rattle.account.specs.History.{sumZ, closed_nets}
+use Rattle.account.specs.History.{int_sum, closed_nets}
 use Rattle.account.specs.Ledger.{Opening, Ledger}
 use Rattle.line.specs.Lines.{line_bytes}
 use Rattle.line.specs.declared.fault.LineFault.{LineFault}
@@ -115,7 +115,7 @@ yen_on line = yen_shown line.outcome
 -- the account that a run leads to: it keeps the law, and the yen on the lines add up to the nets of its closed months
 pub record RunAccounted (input : List ℕ) (o : Opening) (l : Ledger) : Type 0 where
   pub accounted : Accounted (taken input) o l
-  pub lines_add_up : sumZ (map yen_on (run_lines None input)) ≡ closed_nets o l
+  pub lines_add_up : int_sum (map yen_on (run_lines None input)) ≡ closed_nets o l
 
 abbrev pub RunLaw : List ℕ → Type 0
 RunLaw input = (o : Opening) (l : Ledger) → book_after None (taken input) ≡ Some (o, l) → RunAccounted input o l
