@@ -77,33 +77,34 @@ figure_reads n false place rest e =
     ∙ ap (λ t. cond t (Err (Zero place)) (Ok (n, place + 1 + 1, rest))) e
     ∙ ap (λ p. Ok (n, p, rest)) (omega arith)
 
--- a number read and checked, with the figures behind it
-checked : (bits : List Bool) (place n behind : ℕ) (rest : List ℕ) (zero? : Bool) → cond zero? (Err (Zero place)) (on (standing bits behind rest) (λ ns place bs. Ok (n ∷ ns, place, bs))) ≡ on (cond zero? (Err (Zero place)) (Ok (n, behind, rest))) (λ n place bs. on (standing bits place bs) (λ ns place bs. Ok (n ∷ ns, place, bs)))
-checked bits place n behind rest true = refl
-checked bits place n behind rest false = refl
+-- a figure that was read, before those read behind it
+abbrev pub before_others : (ℕ → List ℕ → Read (List ℕ)) → ℕ → ℕ → List ℕ → Read (List ℕ)
+before_others others n place bs = on (others place bs) (λ ns place bs. Ok (n ∷ ns, place, bs))
 
-checked_read : (bits : List Bool) (place : ℕ) (r : Read ℕ) → on r (λ n behind bs. cond (eqb n 0) (Err (Zero place)) (on (standing bits behind bs) (λ ns place bs. Ok (n ∷ ns, place, bs)))) ≡ on (on r (λ n behind bs. cond (eqb n 0) (Err (Zero place)) (Ok (n, behind, bs)))) (λ n place bs. on (standing bits place bs) (λ ns place bs. Ok (n ∷ ns, place, bs)))
-checked_read bits place (Ok (n, behind, rest)) = checked bits place n behind rest (eqb n 0)
-checked_read bits place (Err fault) = refl
+-- a bit's figure, and what is read behind it
+abbrev pub each : Bool → (ℕ → List ℕ → Read (List ℕ)) → ℕ → List ℕ → Read (List ℕ)
+each bit others place bs = on (figure bit place bs) (before_others others)
 
--- the figures of a list of bits: that of the first bit, then the others
-pub standing_bit : (bit : Bool) (bits : List Bool) (place : ℕ) (bs : List ℕ) → standing (bit ∷ bits) place bs ≡ on (figure bit place bs) (λ n place bs. on (standing bits place bs) (λ ns place bs. Ok (n ∷ ns, place, bs)))
+checked : (others : ℕ → List ℕ → Read (List ℕ)) (place n behind : ℕ) (rest : List ℕ) (zero? : Bool) → cond zero? (Err (Zero place)) (before_others others n behind rest) ≡ on (cond zero? (Err (Zero place)) (Ok (n, behind, rest))) (before_others others)
+checked others place n behind rest true = refl
+checked others place n behind rest false = refl
+
+checked_read : (others : ℕ → List ℕ → Read (List ℕ)) (place : ℕ) (r : Read ℕ) → on r (λ n behind bs. cond (eqb n 0) (Err (Zero place)) (before_others others n behind bs)) ≡ on (on r (λ n behind bs. cond (eqb n 0) (Err (Zero place)) (Ok (n, behind, bs)))) (before_others others)
+checked_read others place (Ok (n, behind, rest)) = checked others place n behind rest (eqb n 0)
+checked_read others place (Err fault) = refl
+
+-- the figures of a map are those of its bits, one after the other
+pub standing_bit : (bit : Bool) (bits : List Bool) (place : ℕ) (bs : List ℕ) → standing (bit ∷ bits) place bs ≡ each bit (standing bits) place bs
 standing_bit false bits place bs = refl
-standing_bit true bits place bs = checked_read bits place (number place bs)
-
--- reading on behind the first figure
-pub standing_then : (bit : Bool) (bits : List Bool) (place : ℕ) (bs : List ℕ) {n behind : ℕ} {rest : List ℕ} {answer : Read (List ℕ)} → figure bit place bs ≡ Ok (n, behind, rest) → on (standing bits behind rest) (λ ns place bs. Ok (n ∷ ns, place, bs)) ≡ answer → standing (bit ∷ bits) place bs ≡ answer
-standing_then bit bits place bs e then = standing_bit bit bits place bs ∙ on_reads _ _ e then
-
-pub standing_faults : (bit : Bool) (bits : List Bool) (place : ℕ) (bs : List ℕ) {fault : SlipFault} → figure bit place bs ≡ Err fault → standing (bit ∷ bits) place bs ≡ Err fault
-standing_faults bit bits place bs e = standing_bit bit bits place bs ∙ on_faults _ _ e
+standing_bit true bits place bs = checked_read (standing bits) place (number place bs)
 
 pub standing_reads : (ns : List ℕ) (place : ℕ) (rest : List ℕ) → standing (map stands ns) place (standing_bytes ns ++ rest) ≡ Ok (ns, place + length (standing_bytes ns), rest)
 standing_reads [] place rest = ap (λ p. Ok ([], p, rest)) (omega arith)
 standing_reads (n ∷ ns) place rest =
     let own = cond (eqb n 0) [] (two_bytes n) in
     ap (standing (map stands (n ∷ ns)) place) (append_assoc own (standing_bytes ns) rest)
-    ∙ standing_then (stands n) (map stands ns) place (own ++ (standing_bytes ns ++ rest)) (figure_reads n (eqb n 0) place (standing_bytes ns ++ rest) refl)
+    ∙ standing_bit (stands n) (map stands ns) place (own ++ (standing_bytes ns ++ rest))
+    ∙ on_reads _ _ (figure_reads n (eqb n 0) place (standing_bytes ns ++ rest) refl)
     (on_reads _ _ (standing_reads ns (place + length own) rest) (ap (λ p. Ok (n ∷ ns, p, rest)) (simp length-append (omega arith))))
 
 -- a figure that was read
@@ -149,8 +150,7 @@ front_on before n (Err fault) = refl
 pub front_more : (before : List ℕ) (bit : Bool) (bits : List Bool) (place : ℕ) (bs : List ℕ) (n behind : ℕ) (rest : List ℕ) → figure bit place bs ≡ Ok (n, behind, rest)
     → front before (standing (bit ∷ bits) place bs) ≡ front (before ++ n ∷ []) (standing bits behind rest)
 front_more before bit bits place bs n behind rest e =
-    ap (front before) (standing_bit bit bits place bs)
-    ∙ ap (λ r. front before (on r (λ n place bs. on (standing bits place bs) (λ ns place bs. Ok (n ∷ ns, place, bs))))) e ∙ front_on before n (standing bits behind rest)
+    ap (front before) (standing_bit bit bits place bs ∙ on_reads _ _ e refl) ∙ front_on before n (standing bits behind rest)
 
 pub front_fault : (before : List ℕ) (bit : Bool) (bits : List Bool) (place : ℕ) (bs : List ℕ) (fault : SlipFault) → figure bit place bs ≡ Err fault → front before (standing (bit ∷ bits) place bs) ≡ Err fault
-front_fault before bit bits place bs fault e = ap (front before) (standing_faults bit bits place bs e)
+front_fault before bit bits place bs fault e = ap (front before) (standing_bit bit bits place bs ∙ on_faults _ _ e)

@@ -11,7 +11,7 @@ use Rattle.slip.specs.Reading.{Read, on, bits, figure, standing, signed, closing
 use Rattle.slip.specs.declared.fault.SlipFault.{SlipFault}
 use Rattle.slip.specs.declared.fault.SlipFault.TheVariants.{Map}
 use Rattle.slip.proofs.MapBits.{low_bits}
-use Rattle.slip.proofs.Parts.{on_reads, on_faults, standing_bit}
+use Rattle.slip.proofs.Parts.{each, on_reads, on_faults, standing_bit}
 use Rattle.slip.proofs.reader.read_prices.Goals as goal
 
 abbrev bit : ℕ → ℕ → Bool
@@ -19,10 +19,6 @@ bit b weight = eqb (b / weight % 2) 1
 
 abbrev closed : Read (List ℕ) → Read Slip
 closed r = on r (λ ns place bs. Ok (closing ns, place, bs))
-
--- a price, and what is read behind it
-abbrev each : Bool → (ℕ → List ℕ → Read (List ℕ)) → ℕ → List ℕ → Read (List ℕ)
-each bit later place bs = on (figure bit place bs) (λ n place bs. on (later place bs) (λ ns place bs. Ok (n ∷ ns, place, bs)))
 
 three : (a b c : Bool) (others : List Bool) (place : ℕ) (bs : List ℕ) → standing (a ∷ b ∷ c ∷ others) place bs ≡ each a (each b (each c (standing others))) place bs
 three a b c others place bs =
