@@ -3,7 +3,8 @@ use Rattle.std.proofs.Common.{◌≡◌, ℕ, ◌+◌, ◌<◌, ◌≤◌, List,
 use Rattle.std.specs.Option.{option_map}
 use Rattle.tariff.specs.Meaning.{Meaning, Lawful}
 use Rattle.tariff.specs.Steps.{Step}
-use Rattle.settlement.specs.Settling.{MonthPrices, numbers}
+use Rattle.settlement.specs.Settling.{numbers}
+use Rattle.settlement.specs.declared.prices.MonthPrices.{MonthPrices}
 use Rattle.settlement.specs.Totals.{Figures, MonthTotals, gathered}
 use Rattle.settlement.specs.declared.deposit_box.DepositBox.{DepositBox}
 use Rattle.settlement.proofs.Months.{Shared, gathered_whole, charges_alike}

@@ -8,7 +8,8 @@ use Rattle.std.specs.List.{range_with_len}
 use Rattle.std.specs.Option.{option_map}
 use Rattle.tariff.specs.Calendar.{last_day}
 use Rattle.settlement.specs.Boxes.{limit}
-use Rattle.settlement.specs.Settling.{MonthPrices, split_of, numbers}
+use Rattle.settlement.specs.Settling.{split_of, numbers}
+use Rattle.settlement.specs.declared.prices.MonthPrices.{MonthPrices}
 use Rattle.settlement.specs.Totals.{Figures, MonthTotals, totals_of, numbered, with_first, all_read, is_month}
 use Rattle.settlement.proofs.Months.{gathered_whole, month_best, smallest_within}
 use Rattle.account.specs.History.{ShownRight}
@@ -43,7 +44,7 @@ first_is_missing standing a (suc n) day le lt stand free = elim (cases_eq a day)
 
 there : {X : Type 0} (x : Option X) → is_some x ≡ true → (v : X) × (x ≡ Some v)
 there (Some v) e = (v, refl)
-there None e = absurd (let z : ◌≡◌ {A = ℕ} 0 1 = cc in omega arith)
+there None e = cc
 
 all_there : (standing : ℕ → Option Figures) (a n : ℕ) → Stand standing a n → (readings : List Figures) × (all_read (map standing (range_with_len a n)) ≡ Some readings)
 all_there standing a zero stand = ([], refl)

@@ -4,7 +4,6 @@ pub mod Closing
 pub mod Complete
 pub mod Held
 pub mod MonthDays
-pub mod Months
 pub mod Nets
 pub mod OpenMonth
 pub mod Running

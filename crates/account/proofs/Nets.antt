@@ -7,7 +7,8 @@ use Rattle.std.proofs.lemmas.Int.{ints}
 use Rattle.std.proofs.lemmas.Bool.{cases_eq, cases_lt, lt-ltb, le-ltb}
 use Rattle.std.specs.List.{range_with_len}
 use Rattle.std.specs.Option.{option_map}
-use Rattle.settlement.specs.Settling.{MonthPrices, numbers}
+use Rattle.settlement.specs.Settling.{numbers}
+use Rattle.settlement.specs.declared.prices.MonthPrices.{MonthPrices}
 use Rattle.settlement.specs.Totals.{Figures, gathered}
 use Rattle.account.specs.History.{int_sum, closed_nets}
 use Rattle.account.specs.Ledger.{Opening, Ledger, days, month_start, month_length, month_of_day, closed_days, month_readings, month_numbers, closed_numbers, net_in, no_prices, with_standing}

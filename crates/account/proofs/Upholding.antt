@@ -4,7 +4,7 @@ use Rattle.std.proofs.lemmas.List.{length_push, map_push}
 use Rattle.std.proofs.lemmas.Map.{update_apart, update_same}
 use Rattle.std.proofs.lemmas.Int.{ints}
 use Rattle.std.proofs.lemmas.Bool.{both_ways, cases_eq, cases_lt, eq-eqb, le-ltb, cond-false}
-use Rattle.settlement.specs.Settling.{MonthPrices}
+use Rattle.settlement.specs.declared.prices.MonthPrices.{MonthPrices}
 use Rattle.settlement.specs.Totals.{Figures, MonthTotals}
 use Rattle.account.specs.History.{Reply, refused, Answered, Answers, Accepted, Entry, History, opened, called, charge, charged, int_sum, closed_nets, Upheld, Kept}
 use Rattle.account.specs.Law.{Law}
@@ -95,12 +95,9 @@ module _ (o : Opening) (l : Ledger) (now : Sound o l) where
   answered r reply None e a = accepted r reply e a
   answered r reply (Some fault) e a = subst (Step o l l) (sym (ap (λ x. charge (r, x)) a ∙ charge_refused r fault)) unchanged
 
--- a ledger is sound as it opens, and after each call that is answered right
+-- a ledger is sound as it opens
 pub opened_sound : (o : Opening) → Sound o empty
 opened_sound o = record { few_closed = omega arith; all_stand = λ day ge lt. absurd (omega arith) }
-
-pub sound_after : (o : Opening) (l : Ledger) → Sound o l → (r : Request) (reply : Reply) → Answers o l r reply → Sound o (after o l r)
-sound_after o l now r reply a = (answered o l now r reply (request_ground o l r) refl a).sound
 
 -- of every history: its ledger is sound, and its charges are the nets of the closed months
 pub record SoFar (o : Opening) (entries : List Entry) (l : Ledger) : Type 0 where

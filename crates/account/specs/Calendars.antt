@@ -1,5 +1,6 @@
 -- Which openings are refused, and what a calendar holds.
-use Rattle.std.specs.Prelude.{ℕ, suc, ◌+◌, Bool, true, cond, ◌&&◌, List, [], ◌∷◌, length, Some, None, sum, Option, nat_le}
+use Rattle.std.specs.Prelude.{ℕ, suc, ◌+◌, Bool, cond, ◌&&◌, List, length, Some, None, sum, Option, nat_le}
+use Rattle.std.specs.List.{list_all}
 use Rattle.tariff.specs.Calendar.{last_day}
 use Rattle.settlement.specs.Boxes.{box_lettered}
 use Rattle.settlement.specs.declared.deposit_box.DepositBox.{DepositBox}
@@ -8,8 +9,7 @@ use Rattle.account.specs.declared.fault.AccountFault.TheVariants.{UnknownBox, Mo
 
 -- months of 1 to 35 days
 abbrev pub lengths_right : List ℕ → Bool
-lengths_right [] = true
-lengths_right (n ∷ lengths) = (nat_le 1 n && nat_le n 35) && lengths_right lengths
+lengths_right lengths = list_all (λ n. nat_le 1 n && nat_le n 35) lengths
 
 -- the first ground against a calendar of these month lengths from a first day number on
 abbrev pub calendar_ground : ℕ → List ℕ → Option AccountFault

@@ -1,5 +1,7 @@
 -- The refusals of the account, by number and place: the account day where a day is refused.
-use Rattle.tariff.specs.Faults.{Refusal}
+use Rattle.tariff.specs.declared.refusal.Refusal.{Refusal}
+use Rattle.settlement.specs.declared.fault.MonthFault.{MonthFault}
+use Rattle.settlement.specs.declared.fault.MonthFault.TheVariants as month
 use Rattle.account.specs.declared.fault.AccountFault.{AccountFault}
 use Rattle.account.specs.declared.fault.AccountFault.TheVariants.{UnknownBox, Months, Length, LastDay, Beyond, Figures, Figure, Posted, NotPosted, Closed, AllClosed, Price, Missing, NotClosed}
 
@@ -18,3 +20,8 @@ account_refusal AllClosed = record { number = 26; place = 0 }
 account_refusal Price = record { number = 27; place = 0 }
 account_refusal (Missing day) = record { number = 28; place = day }
 account_refusal NotClosed = record { number = 29; place = 0 }
+
+-- the account's fault where a month's is met
+abbrev pub month_fault : MonthFault → AccountFault
+month_fault month.UnknownBox = UnknownBox
+month_fault month.Price = Price

@@ -8,7 +8,8 @@ use Rattle.tariff.specs.Meaning.{Meaning, Lawful}
 use Rattle.tariff.specs.Steps.{Step}
 use Rattle.settlement.specs.Limits.{prices_within}
 use Rattle.settlement.specs.Readings.{reading_ground}
-use Rattle.settlement.specs.Settling.{MonthPrices, Numbers, numbers}
+use Rattle.settlement.specs.Settling.{Numbers, numbers}
+use Rattle.settlement.specs.declared.prices.MonthPrices.{MonthPrices}
 use Rattle.settlement.specs.Totals.{Figures, MonthTotals, gathered}
 use Rattle.settlement.specs.declared.deposit_box.DepositBox.{DepositBox}
 use Rattle.settlement.specs.declared.reading.ReadingFault.{ReadingFault}

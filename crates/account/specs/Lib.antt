@@ -4,6 +4,7 @@ pub mod Faults
 pub mod History
 pub mod Law
 pub mod Ledger
+pub mod Openings
 pub mod Standing
 pub mod View
 pub mod Replies

@@ -1,5 +1,6 @@
 -- The readings that stand in a table of days.
-use Rattle.std.specs.Prelude.{ℕ, Bool, true, ◌&&◌, List, [], ◌∷◌, is_some, None, Option, slice_index_or}
+use Rattle.std.specs.Prelude.{ℕ, Bool, List, is_some, None, Option, slice_index_or}
+use Rattle.std.specs.List.{list_all}
 use Rattle.std.specs.Option.{option_map}
 use Rattle.settlement.specs.Totals.{Figures, figures_of}
 use Rattle.settlement.specs.declared.reading.Reading.{Reading}
@@ -9,5 +10,4 @@ abbrev pub standing_in : List (Option Reading) → ℕ → Option Figures
 standing_in days day = option_map figures_of (slice_index_or days day None)
 
 abbrev pub all_standing : List (Option Reading) → Bool
-all_standing [] = true
-all_standing (day ∷ days) = is_some day && all_standing days
+all_standing days = list_all is_some days

@@ -2,7 +2,7 @@
 use Rattle.std.specs.Prelude.{ℕ, List, map, take}
 use Rattle.tariff.specs.Meaning.{Meaning}
 use Rattle.tariff.specs.Steps.{Step}
-use Rattle.settlement.specs.Settlements.{prices_of}
+use Rattle.settlement.specs.Prices.{prices_of}
 use Rattle.account.specs.Ledger.{Opening, Ledger}
 use Rattle.account.specs.Standing.{standing_in}
 use Rattle.account.specs.declared.account.Account.{Account}
@@ -11,9 +11,15 @@ use Rattle.account.specs.declared.calendar.Calendar.{Calendar}
 abbrev pub lengths_of : Calendar → List ℕ
 lengths_of c = take c.months c.lengths
 
--- over a supply of this meaning and these tables
-abbrev pub opening_of : {S : Type 0} → Meaning → List (List Step) → Account S → Opening
-opening_of m tables a = record { meaning = m; tables = tables; box = a.deposit_box; first = a.calendar.first; lengths = lengths_of a.calendar }
+-- by the meaning and the tables of supplies
+abbrev pub opening_of : {S : Type 0} → (S → Meaning) → (S → List (List Step)) → Account S → Opening
+opening_of whole tables a = record {
+  meaning = whole a.supply;
+  tables = tables a.supply;
+  box = a.deposit_box;
+  first = a.calendar.first;
+  lengths = lengths_of a.calendar;
+}
 
 abbrev pub ledger_of : {S : Type 0} → Account S → Ledger
-ledger_of a = record { standing = standing_in a.table.days; closed = take a.closed (map prices_of a.prices) }
+ledger_of a = record { standing = standing_in a.table.days; closed = map prices_of a.closed.items }

@@ -5,7 +5,7 @@ ghost use Rattle.account.specs.Standing.{all_standing};
 
 use crate::calendar::Calendar;
 use crate::day_table::DayTable;
-use crate::fault::AccountFault;
+use arrayvec::ArrayVec;
 use settlement::deposit_box::DepositBox;
 use settlement::prices::Prices;
 
@@ -16,17 +16,8 @@ pub struct Account<S> {
     supply: S,
     deposit_box: DepositBox,
     calendar: Calendar,
-    closed: u8,
-    prices: [Prices; 12],
+    closed: ArrayVec<Prices, 12>,
     table: DayTable,
-    ghost counted: { closed ≤ calendar.months },
-    ghost priced: { length prices ≡ 12 },
-    ghost complete: { all_standing (take (sum (take closed (take calendar.months calendar.lengths))) table.days) ≡ true },
-}
-
-/// An opening that was refused, with the supply handed back: a supply may be a value that cannot be dropped or made again.
-#[derive(Drop)]
-pub struct Unopened<S> {
-    pub supply: S,
-    pub fault: AccountFault,
+    ghost counted: { length closed.items ≤ calendar.months },
+    ghost complete: { all_standing (take (sum (take (length closed.items) (take calendar.months calendar.lengths))) table.days) ≡ true },
 }

@@ -8,6 +8,7 @@ ghost use Rattle.account.specs.Calendars.{lengths_right};
 #[derive(Clone, Copy)]
 pub struct Calendar {
     first: u16,
+    // A calendar is `Copy`, and an `ArrayVec` is not: so its months are an array and their number.
     months: u8,
     lengths: [u8; 12],
     ghost some: { 1 ≤ months },

@@ -1,5 +1,8 @@
 ghost use Rattle.std.specs.Prelude.{◌≡◌};
-ghost use Rattle.account.specs.Faults.{account_refusal};
+ghost use Rattle.account.specs.Faults.{account_refusal, month_fault};
+
+use settlement::fault::MonthFault;
+use tariff::refusal::Refusal;
 
 /// Why an account refuses an opening or a call.
 #[derive(Clone, Copy, PartialEq, Eq, Debug)]
@@ -34,39 +37,37 @@ pub enum AccountFault {
     NotClosed,
 }
 
-impl AccountFault {
-    pub fn number(self) -> u8
-        ensures { result ≡ (account_refusal self).number }
-    {
-        match self {
-            AccountFault::UnknownBox => 13,
-            AccountFault::Months => 14,
-            AccountFault::Length => 15,
-            AccountFault::LastDay => 16,
-            AccountFault::Beyond { .. } => 20,
-            AccountFault::Figures => 21,
-            AccountFault::Figure { .. } => 22,
-            AccountFault::Posted { .. } => 23,
-            AccountFault::NotPosted { .. } => 24,
-            AccountFault::Closed { .. } => 25,
-            AccountFault::AllClosed => 26,
-            AccountFault::Price => 27,
-            AccountFault::Missing { .. } => 28,
-            AccountFault::NotClosed => 29,
-        }
-    }
+impl From<AccountFault> for Refusal {
+    ghost from_gives = { λ fault refusal. refusal ≡ account_refusal fault };
 
-    pub fn place(self) -> u16
-        ensures { result ≡ (account_refusal self).place }
-    {
-        match self {
-            AccountFault::Beyond { day }
-            | AccountFault::Figure { day }
-            | AccountFault::Posted { day }
-            | AccountFault::NotPosted { day }
-            | AccountFault::Closed { day }
-            | AccountFault::Missing { day } => day,
-            _ => 0,
+    fn from(fault: AccountFault) -> Refusal {
+        let (number, place) = match fault {
+            AccountFault::UnknownBox => (13, 0),
+            AccountFault::Months => (14, 0),
+            AccountFault::Length => (15, 0),
+            AccountFault::LastDay => (16, 0),
+            AccountFault::Beyond { day } => (20, day),
+            AccountFault::Figures => (21, 0),
+            AccountFault::Figure { day } => (22, day),
+            AccountFault::Posted { day } => (23, day),
+            AccountFault::NotPosted { day } => (24, day),
+            AccountFault::Closed { day } => (25, day),
+            AccountFault::AllClosed => (26, 0),
+            AccountFault::Price => (27, 0),
+            AccountFault::Missing { day } => (28, day),
+            AccountFault::NotClosed => (29, 0),
+        };
+        Refusal { number, place }
+    }
+}
+
+impl From<MonthFault> for AccountFault {
+    ghost from_gives = { λ fault refused. refused ≡ month_fault fault };
+
+    fn from(fault: MonthFault) -> AccountFault {
+        match fault {
+            MonthFault::UnknownBox => AccountFault::UnknownBox,
+            MonthFault::Price => AccountFault::Price,
         }
     }
 }

@@ -8,3 +8,4 @@ pub mod day_table;
 mod entry;
 pub mod fault;
 pub mod replay;
+pub mod terms;

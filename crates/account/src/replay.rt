@@ -1,17 +1,20 @@
 ghost use Rattle.std.specs.Prelude.{◌≡◌, IfOk};
 ghost use Rattle.account.specs.Runs.{Ran, ReplayAnswer};
+ghost use Rattle.account.specs.declared.replay.ReplayFault.TheVariants.{Refused as WasRefused, OutOfMemory};
 
 use crate::account::Account;
 use crate::call::{Answer, Call};
 use crate::fault::AccountFault;
+use crate::terms::Terms;
 use std::alloc::{AllocError, Global};
+use tariff::refused::Refused;
 use tariff::supply::Supply;
 
 /// An account after a list of calls, with the answer of each.
 #[derive(Drop)]
 pub struct Replayed<S> {
     pub account: Account<S>,
-    pub answers: Vec<Answer>,
+    pub answers: Vec<Result<Answer, AccountFault>>,
 }
 
 /// Why a list of calls was not replayed.
@@ -23,39 +26,48 @@ pub enum ReplayFault {
     OutOfMemory,
 }
 
+impl<S: Drop> From<Refused<S, AccountFault>> for ReplayFault {
+    ghost from_gives = { λ refused fault. fault ≡ WasRefused refused.fault };
+
+    fn from(refused: Refused<S, AccountFault>) -> ReplayFault {
+        ReplayFault::Refused(refused.fault)
+    }
+}
+
+impl From<AllocError> for ReplayFault {
+    ghost from_gives = { λ _ fault. fault ≡ OutOfMemory };
+
+    fn from(_error: AllocError) -> ReplayFault {
+        ReplayFault::OutOfMemory
+    }
+}
+
 // Makes the calls in order.
 fn run<S: Supply>(
-    heap: Global,
+    alloc: Global,
     account: &mut Account<S>,
     calls: &[Call],
-) -> Result<Vec<Answer>, AllocError>
-    ensures { IfOk result (λ answers. Ran (S.Supply.whole account.old.supply) (S.Tariff.tables account.old.supply) account.old account.new calls.now answers.items) }
+) -> Result<Vec<Result<Answer, AccountFault>>, AllocError>
+    ensures { IfOk result (λ answers. Ran S.Supply.whole S.Tariff.tables account.old account.new calls.now answers.items) }
 {
-    let mut answers = Vec::new(heap);
+    // A call changes the account, and of a closure that does no clause knows what it answered: so this is a loop.
+    let mut answers = Vec::new(alloc);
     for call in calls {
-        let answer = account.apply(call);
-        answers.push(answer)?;
+        answers.push(account.apply(call))?;
     }
     Ok(answers)
 }
 
 /// Opens an account and makes a list of calls in order.
 pub fn replay<S: Supply + Drop>(
-    heap: Global,
+    alloc: Global,
     supply: S,
-    letter: char,
-    first: u16,
-    lengths: &[u8],
+    terms: Terms,
     calls: &[Call],
 ) -> Result<Replayed<S>, ReplayFault>
-    ensures { ReplayAnswer (S.Supply.whole supply) (S.Tariff.tables supply) supply letter first lengths.now calls.now result }
+    ensures { ReplayAnswer S.Supply.whole S.Tariff.tables supply terms.entry calls.now result }
 {
-    let mut account = match Account::open(supply, letter, first, lengths) {
-        Ok(account) => account,
-        Err(refused) => return Err(ReplayFault::Refused(refused.fault)),
-    };
-    match run(heap, &mut account, calls) {
-        Ok(answers) => Ok(Replayed { account, answers }),
-        Err(_) => Err(ReplayFault::OutOfMemory),
-    }
+    let mut account = Account::open(supply, terms)?;
+    let answers = run(alloc, &mut account, calls)?;
+    Ok(Replayed { account, answers })
 }

@@ -7,89 +7,81 @@ mod tests {
     use account::call::{Answer, Call};
     use account::fault::AccountFault;
     use account::replay::{ReplayFault, replay};
+    use account::terms::Terms;
+    use settlement::prices::MonthPrices;
+    use settlement::reading::DayFigures;
     use settlement::settlement::Settlement;
+    use std::ops::Range;
     use std::process::Abort;
     use std::test::Fail;
     use tariff::discount::Discount;
+    use tariff::refusal::Refusal;
     use tariff::seasonal::Seasonal;
     use tariff::standard::Standard;
     use tariff::supply::Supply;
 
-    // What is looked at of an answer: a settlement by its net.
+    // What is looked at of an answer: a settlement, which has no equality, by its net.
     #[derive(Clone, Copy, PartialEq, Eq, Debug)]
     enum Seen {
         Done,
-        Refused { number: u8, place: u16 },
         Difference(i64),
         Net(i64),
     }
 
-    fn refused(fault: AccountFault) -> Seen {
-        Seen::Refused {
-            number: fault.number(),
-            place: fault.place(),
+    impl From<Answer> for Seen {
+        fn from(answer: Answer) -> Seen {
+            match answer {
+                Answer::Done => Seen::Done,
+                Answer::Difference(yen) => Seen::Difference(yen),
+                Answer::Settled(settlement) => Seen::Net(settlement.net),
+            }
         }
     }
 
-    fn done(res: Result<(), AccountFault>) -> Seen {
-        match res {
-            Ok(()) => Seen::Done,
-            Err(fault) => refused(fault),
-        }
+    fn seen_in(res: Result<Answer, AccountFault>) -> Result<Seen, Refusal> {
+        Ok(Seen::from(res?))
     }
 
-    fn difference(res: Result<i64, AccountFault>) -> Seen {
-        match res {
-            Ok(yen) => Seen::Difference(yen),
-            Err(fault) => refused(fault),
-        }
+    fn net(res: Result<Settlement, AccountFault>) -> Result<i64, Refusal> {
+        Ok(res?.net)
     }
 
-    fn settled(res: Result<Settlement, AccountFault>) -> Seen {
-        match res {
-            Ok(settlement) => Seen::Net(settlement.net),
-            Err(fault) => refused(fault),
-        }
-    }
-
-    fn answered(answer: Answer) -> Seen {
-        match answer {
-            Answer::Refused(fault) => refused(fault),
-            Answer::Done => Seen::Done,
-            Answer::Difference(yen) => Seen::Difference(yen),
-            Answer::Settled(settlement) => Seen::Net(settlement.net),
-        }
-    }
-
-    fn refusal(number: u8, place: u16) -> Seen {
-        Seen::Refused { number, place }
+    fn refused<T>(number: u8, place: u16) -> Result<T, Refusal> {
+        Err(Refusal { number, place })
     }
 
     // Makes calls in order, each with the answer that it must have.
     fn follow<S: Supply>(
         rt: &impl Abort,
         account: &mut Account<S>,
-        steps: &[(Call, Seen)],
+        steps: &[(Call, Result<Seen, Refusal>)],
     ) -> Result<(), Fail> {
         for (call, expected) in steps {
-            assert_eq!(rt; answered(account.apply(call)), *expected);
+            assert_eq!(rt; seen_in(account.apply(call)), *expected);
         }
         Ok(())
     }
 
-    fn opening(letter: char, first: u16, lengths: &[u8]) -> Result<Seen, Fail> {
-        match Account::open(Standard::new(10)?, letter, first, lengths) {
-            Ok(_) => Ok(Seen::Done),
-            Err(unopened) => Ok(refused(unopened.fault)),
+    fn terms(letter: char, first: u16, lengths: &[u8]) -> Terms<'_> {
+        Terms {
+            letter,
+            first,
+            lengths,
         }
     }
 
-    // An account of 10 kVA on the standard tariff with the box S.
-    fn opened(first: u16, lengths: &[u8]) -> Result<Account<Standard>, Fail> {
-        match Account::open(Standard::new(10)?, 'S', first, lengths) {
-            Ok(account) => Ok(account),
-            Err(_) => Err(Fail::new("not opened")),
-        }
+    fn opening(letter: char, first: u16, lengths: &[u8]) -> Result<Result<(), Refusal>, Fail> {
+        Ok(
+            match Account::open(Standard::new(10)?, terms(letter, first, lengths)) {
+                Ok(_) => Ok(()),
+                Err(refused) => Err(refused.fault.into()),
+            },
+        )
+    }
+
+    // An account over a supply, with the box S.
+    fn opened<S: Supply + Drop>(supply: S, first: u16, lengths: &[u8]) -> Result<Account<S>, Fail> {
+        Account::open(supply, terms('S', first, lengths)).map_err(|_| Fail::new("not opened"))
     }
 
     // Hundredths in the first half-hour alone.
@@ -99,97 +91,112 @@ mod tests {
         list
     }
 
-    fn post<'a>(day: u16, used: &'a [u16], surplus: &'a [u16]) -> Call<'a> {
-        Call::Post {
-            day,
+    fn worked<'a>(used: &'a [u16], surplus: &'a [u16]) -> DayFigures<&'a [u16]> {
+        DayFigures {
             rest: false,
             used,
             surplus,
         }
     }
 
+    fn post<'a>(day: u16, used: &'a [u16], surplus: &'a [u16]) -> Call<'a> {
+        Call::Post {
+            day,
+            figures: worked(used, surplus),
+        }
+    }
+
     fn correct<'a>(day: u16, rest: bool, used: &'a [u16], surplus: &'a [u16]) -> Call<'a> {
         Call::Correct {
             day,
-            rest,
-            used,
-            surplus,
+            figures: DayFigures {
+                rest,
+                used,
+                surplus,
+            },
         }
     }
 
     fn draft<'a>(fuel: i16, levy: u16, buy: u16) -> Call<'a> {
-        Call::Draft { fuel, levy, buy }
+        Call::Draft(MonthPrices { fuel, levy, buy })
     }
 
     fn close<'a>(fuel: i16, levy: u16, buy: u16) -> Call<'a> {
-        Call::Close { fuel, levy, buy }
+        Call::Close(MonthPrices { fuel, levy, buy })
     }
+
+    // No fuel price and no levy, and surplus bought at 800 sen.
+    const PLAIN: MonthPrices = MonthPrices {
+        fuel: 0,
+        levy: 0,
+        buy: 800,
+    };
 
     #[test]
     fn openings_at_the_limits(rt: HostRuntime) -> Result<(), Fail> {
-        assert_eq!(rt; opening('S', 0, &[35])?, Seen::Done);
-        assert_eq!(rt; opening('S', 0, &[36])?, refusal(15, 0));
-        assert_eq!(rt; opening('S', 0, &[0])?, refusal(15, 0));
-        assert_eq!(rt; opening('S', 0, &[1; 12])?, Seen::Done);
-        assert_eq!(rt; opening('S', 0, &[1; 13])?, refusal(14, 0));
-        assert_eq!(rt; opening('S', 0, &[])?, refusal(14, 0));
-        assert_eq!(rt; opening('S', 36_490, &[35])?, Seen::Done);
-        assert_eq!(rt; opening('S', 36_491, &[35])?, refusal(16, 0));
-        assert_eq!(rt; opening('S', 36_524, &[1])?, Seen::Done);
-        assert_eq!(rt; opening('S', 36_525, &[1])?, refusal(16, 0));
-        assert_eq!(rt; opening('s', 0, &[1])?, refusal(13, 0));
+        assert_eq!(rt; opening('S', 0, &[35])?, Ok(()));
+        assert_eq!(rt; opening('S', 0, &[36])?, refused(15, 0));
+        assert_eq!(rt; opening('S', 0, &[0])?, refused(15, 0));
+        assert_eq!(rt; opening('S', 0, &[1; 12])?, Ok(()));
+        assert_eq!(rt; opening('S', 0, &[1; 13])?, refused(14, 0));
+        assert_eq!(rt; opening('S', 0, &[])?, refused(14, 0));
+        assert_eq!(rt; opening('S', 36_490, &[35])?, Ok(()));
+        assert_eq!(rt; opening('S', 36_491, &[35])?, refused(16, 0));
+        assert_eq!(rt; opening('S', 36_524, &[1])?, Ok(()));
+        assert_eq!(rt; opening('S', 36_525, &[1])?, refused(16, 0));
+        assert_eq!(rt; opening('s', 0, &[1])?, refused(13, 0));
         Ok(())
     }
 
     #[test]
     fn openings_refused_on_the_first_ground(rt: HostRuntime) -> Result<(), Fail> {
-        assert_eq!(rt; opening('X', 65_535, &[0; 13])?, refusal(13, 0));
-        assert_eq!(rt; opening('M', 65_535, &[0; 13])?, refusal(14, 0));
-        assert_eq!(rt; opening('L', 65_535, &[35, 36])?, refusal(15, 0));
-        assert_eq!(rt; opening('T', 65_535, &[35])?, refusal(16, 0));
-        assert_eq!(rt; opening('R', 0, &[35])?, Seen::Done);
+        assert_eq!(rt; opening('X', 65_535, &[0; 13])?, refused(13, 0));
+        assert_eq!(rt; opening('M', 65_535, &[0; 13])?, refused(14, 0));
+        assert_eq!(rt; opening('L', 65_535, &[35, 36])?, refused(15, 0));
+        assert_eq!(rt; opening('T', 65_535, &[35])?, refused(16, 0));
+        assert_eq!(rt; opening('R', 0, &[35])?, Ok(()));
         Ok(())
     }
 
     #[test]
     fn postings(rt: HostRuntime) -> Result<(), Fail> {
-        let mut account = opened(0, &[2, 1])?;
+        let mut account = opened(Standard::new(10)?, 0, &[2, 1])?;
         let (high, most, none) = ([2_501; 48], [2_500; 48], [0; 48]);
         follow(
             &rt,
             &mut account,
             &[
-                (post(3, &high[0..47], &none), refusal(20, 3)),
-                (post(2, &high[0..47], &none), refusal(21, 0)),
-                (post(2, &high, &none[0..47]), refusal(21, 0)),
-                (post(2, &none, &high), refusal(22, 2)),
-                (post(2, &most, &most), Seen::Done),
-                (post(2, &high, &none), refusal(22, 2)),
-                (post(2, &none, &none), refusal(23, 2)),
-                (post(0, &none, &none), Seen::Done),
+                (post(3, &high[0..47], &none), refused(20, 3)),
+                (post(2, &high[0..47], &none), refused(21, 0)),
+                (post(2, &high, &none[0..47]), refused(21, 0)),
+                (post(2, &none, &high), refused(22, 2)),
+                (post(2, &most, &most), Ok(Seen::Done)),
+                (post(2, &high, &none), refused(22, 2)),
+                (post(2, &none, &none), refused(23, 2)),
+                (post(0, &none, &none), Ok(Seen::Done)),
             ],
         )
     }
 
     #[test]
     fn corrections_and_strikes(rt: HostRuntime) -> Result<(), Fail> {
-        let mut account = opened(0, &[2, 1])?;
+        let mut account = opened(Standard::new(10)?, 0, &[2, 1])?;
         let (high, most, none) = ([2_501; 48], [2_500; 48], [0; 48]);
         follow(
             &rt,
             &mut account,
             &[
-                (correct(3, false, &high[0..47], &none), refusal(20, 3)),
-                (correct(1, false, &none, &high[0..47]), refusal(21, 0)),
-                (correct(1, false, &none, &high), refusal(22, 1)),
-                (correct(1, false, &most, &most), refusal(24, 1)),
-                (Call::Strike { day: 3 }, refusal(20, 3)),
-                (Call::Strike { day: 1 }, refusal(24, 1)),
-                (post(1, &none, &none), Seen::Done),
-                (correct(1, true, &most, &most), Seen::Difference(0)),
-                (Call::Strike { day: 1 }, Seen::Done),
-                (Call::Strike { day: 1 }, refusal(24, 1)),
-                (post(1, &none, &none), Seen::Done),
+                (correct(3, false, &high[0..47], &none), refused(20, 3)),
+                (correct(1, false, &none, &high[0..47]), refused(21, 0)),
+                (correct(1, false, &none, &high), refused(22, 1)),
+                (correct(1, false, &most, &most), refused(24, 1)),
+                (Call::Strike { day: 3 }, refused(20, 3)),
+                (Call::Strike { day: 1 }, refused(24, 1)),
+                (post(1, &none, &none), Ok(Seen::Done)),
+                (correct(1, true, &most, &most), Ok(Seen::Difference(0))),
+                (Call::Strike { day: 1 }, Ok(Seen::Done)),
+                (Call::Strike { day: 1 }, refused(24, 1)),
+                (post(1, &none, &none), Ok(Seen::Done)),
             ],
         )
     }
@@ -201,19 +208,19 @@ mod tests {
             account,
             &[
                 // The later month is posted first, and the open month still misses its day.
-                (post(1, &one, &none), Seen::Done),
-                (draft(10_001, 0, 0), refusal(27, 0)),
-                (draft(-10_001, 0, 0), refusal(27, 0)),
-                (close(0, 10_001, 0), refusal(27, 0)),
-                (close(0, 0, 10_001), refusal(27, 0)),
-                (draft(0, 0, 800), refusal(28, 0)),
-                (close(0, 0, 800), refusal(28, 0)),
-                (Call::Show { month: 0 }, refusal(29, 0)),
-                (post(0, &none, &none), Seen::Done),
+                (post(1, &one, &none), Ok(Seen::Done)),
+                (draft(10_001, 0, 0), refused(27, 0)),
+                (draft(-10_001, 0, 0), refused(27, 0)),
+                (close(0, 10_001, 0), refused(27, 0)),
+                (close(0, 0, 10_001), refused(27, 0)),
+                (draft(0, 0, 800), refused(28, 0)),
+                (close(0, 0, 800), refused(28, 0)),
+                (Call::Show { month: 0 }, refused(29, 0)),
+                (post(0, &none, &none), Ok(Seen::Done)),
                 // Nothing used: 143,000 sen, and the box's 800 yen.
-                (draft(0, 0, 800), Seen::Net(2_230)),
-                (Call::Show { month: 0 }, refusal(29, 0)),
-                (close(0, 0, 800), Seen::Net(2_230)),
+                (draft(0, 0, 800), Ok(Seen::Net(2_230))),
+                (Call::Show { month: 0 }, refused(29, 0)),
+                (close(0, 0, 800), Ok(Seen::Net(2_230))),
             ],
         )
     }
@@ -224,24 +231,24 @@ mod tests {
             rt,
             account,
             &[
-                (post(0, &none, &none), refusal(23, 0)),
-                (Call::Show { month: 0 }, Seen::Net(2_230)),
-                (Call::Show { month: 1 }, refusal(29, 0)),
+                (post(0, &none, &none), refused(23, 0)),
+                (Call::Show { month: 0 }, Ok(Seen::Net(2_230))),
+                (Call::Show { month: 1 }, refused(29, 0)),
                 // 1 kWh: 286,000 + 1,988 − 50 sen, 3 yen of levy, 800 yen.
-                (close(-50, 398, 850), Seen::Net(3_682)),
-                (draft(10_001, 0, 0), refusal(26, 0)),
-                (close(0, 0, 0), refusal(26, 0)),
-                (Call::Show { month: 2 }, refusal(29, 0)),
+                (close(-50, 398, 850), Ok(Seen::Net(3_682))),
+                (draft(10_001, 0, 0), refused(26, 0)),
+                (close(0, 0, 0), refused(26, 0)),
+                (Call::Show { month: 2 }, refused(29, 0)),
                 // Each month at its own prices.
-                (Call::Show { month: 0 }, Seen::Net(2_230)),
-                (Call::Show { month: 1 }, Seen::Net(3_682)),
+                (Call::Show { month: 0 }, Ok(Seen::Net(2_230))),
+                (Call::Show { month: 1 }, Ok(Seen::Net(3_682))),
             ],
         )
     }
 
     #[test]
     fn months_close_in_order(rt: HostRuntime) -> Result<(), Fail> {
-        let mut account = opened(0, &[1, 1])?;
+        let mut account = opened(Standard::new(10)?, 0, &[1, 1])?;
         close_first(&rt, &mut account)?;
         close_second(&rt, &mut account)
     }
@@ -261,24 +268,24 @@ mod tests {
             rt,
             account,
             &[
-                (post(0, &one, &none), Seen::Done),
-                (close(0, 0, 800), Seen::Net(3_679)),
-                (correct(0, false, &two, &none), Seen::Difference(20)),
-                (Call::Show { month: 0 }, Seen::Net(3_699)),
-                (correct(0, false, &most, &none), Seen::Difference(458)),
+                (post(0, &one, &none), Ok(Seen::Done)),
+                (close(0, 0, 800), Ok(Seen::Net(3_679))),
+                (correct(0, false, &two, &none), Ok(Seen::Difference(20))),
+                (Call::Show { month: 0 }, Ok(Seen::Net(3_699))),
+                (correct(0, false, &most, &none), Ok(Seen::Difference(458))),
                 // 3,679 + 20 + 458
-                (Call::Show { month: 0 }, Seen::Net(4_157)),
-                (correct(0, false, &two, &three), Seen::Difference(-505)),
-                (Call::Show { month: 0 }, Seen::Net(3_652)),
-                (Call::Strike { day: 0 }, refusal(25, 0)),
-                (Call::Show { month: 0 }, Seen::Net(3_652)),
+                (Call::Show { month: 0 }, Ok(Seen::Net(4_157))),
+                (correct(0, false, &two, &three), Ok(Seen::Difference(-505))),
+                (Call::Show { month: 0 }, Ok(Seen::Net(3_652))),
+                (Call::Strike { day: 0 }, refused(25, 0)),
+                (Call::Show { month: 0 }, Ok(Seen::Net(3_652))),
             ],
         )
     }
 
     #[test]
     fn differences_add_up(rt: HostRuntime) -> Result<(), Fail> {
-        let mut account = opened(0, &[1])?;
+        let mut account = opened(Standard::new(10)?, 0, &[1])?;
         corrected(&rt, &mut account)
     }
 
@@ -292,14 +299,14 @@ mod tests {
             rt,
             account,
             &[
-                (post(0, &one, &none), Seen::Done),
-                (post(1, &one, &none), Seen::Done),
-                (post(2, &one, &none), Seen::Done),
-                (close(0, 0, 800), Seen::Net(3_679)),
-                (close(-50, 398, 850), Seen::Net(3_705)),
-                (correct(2, false, &two, &three), Seen::Difference(-34)),
-                (correct(0, false, &two, &none), Seen::Difference(20)),
-                (correct(1, false, &none, &none), Seen::Difference(-13)),
+                (post(0, &one, &none), Ok(Seen::Done)),
+                (post(1, &one, &none), Ok(Seen::Done)),
+                (post(2, &one, &none), Ok(Seen::Done)),
+                (close(0, 0, 800), Ok(Seen::Net(3_679))),
+                (close(-50, 398, 850), Ok(Seen::Net(3_705))),
+                (correct(2, false, &two, &three), Ok(Seen::Difference(-34))),
+                (correct(0, false, &two, &none), Ok(Seen::Difference(20))),
+                (correct(1, false, &none, &none), Ok(Seen::Difference(-13))),
             ],
         )
     }
@@ -310,47 +317,36 @@ mod tests {
             rt,
             account,
             &[
-                (post(3, &one, &none), Seen::Done),
-                (correct(3, false, &two, &none), Seen::Difference(0)),
-                (Call::Show { month: 0 }, Seen::Net(3_699)),
-                (Call::Show { month: 1 }, Seen::Net(3_658)),
-                (Call::Strike { day: 2 }, refusal(25, 2)),
-                (Call::Strike { day: 3 }, Seen::Done),
+                (post(3, &one, &none), Ok(Seen::Done)),
+                (correct(3, false, &two, &none), Ok(Seen::Difference(0))),
+                (Call::Show { month: 0 }, Ok(Seen::Net(3_699))),
+                (Call::Show { month: 1 }, Ok(Seen::Net(3_658))),
+                (Call::Strike { day: 2 }, refused(25, 2)),
+                (Call::Strike { day: 3 }, Ok(Seen::Done)),
             ],
         )
     }
 
     #[test]
     fn each_month_at_its_own_prices(rt: HostRuntime) -> Result<(), Fail> {
-        let mut account = opened(0, &[1, 2, 1])?;
+        let mut account = opened(Standard::new(10)?, 0, &[1, 2, 1])?;
         correct_months(&rt, &mut account)?;
         show_months(&rt, &mut account)
     }
 
     #[test]
     fn a_hundred_percent_change_nothing(rt: HostRuntime) -> Result<(), Fail> {
-        let supply = match Discount::new(Standard::new(10)?, 100) {
-            Ok(supply) => supply,
-            Err(_) => return Err(Fail::new("not discounted")),
-        };
-        match Account::open(supply, 'S', 0, &[1]) {
-            Ok(opened) => {
-                let mut account = opened;
-                corrected(&rt, &mut account)
-            }
-            Err(_) => Err(Fail::new("not opened")),
-        }
+        let supply = Discount::new(Standard::new(10)?, 100).map_err(|_| Fail::new(
+            "not discounted",
+        ))?;
+        let mut account = opened(supply, 0, &[1])?;
+        corrected(&rt, &mut account)
     }
 
     // 10 kWh in each half-hour from 13:00 to 16:00.
     fn afternoon() -> [u16; 48] {
         let mut list = [0; 48];
-        list[26] = 1_000;
-        list[27] = 1_000;
-        list[28] = 1_000;
-        list[29] = 1_000;
-        list[30] = 1_000;
-        list[31] = 1_000;
+        list[26..32].fill(1_000);
         list
     }
 
@@ -359,90 +355,87 @@ mod tests {
     #[test]
     fn the_rest_mark_moves_the_peak(rt: HostRuntime) -> Result<(), Fail> {
         let (used, none) = (afternoon(), [0; 48]);
-        match Account::open(Seasonal::new(10)?, 'S', 184, &[1]) {
-            Ok(opened) => {
-                let mut account = opened;
-                follow(
-                    &rt,
-                    &mut account,
-                    &[
-                        (post(0, &used, &none), Seen::Done),
-                        (close(0, 0, 800), Seen::Net(4_414)),
-                        (correct(0, true, &used, &none), Seen::Difference(-505)),
-                        (Call::Show { month: 0 }, Seen::Net(3_909)),
-                        (correct(0, false, &used, &none), Seen::Difference(505)),
-                    ],
-                )
-            }
-            Err(_) => Err(Fail::new("not opened")),
-        }
+        let mut account = opened(Seasonal::new(10)?, 184, &[1])?;
+        follow(
+            &rt,
+            &mut account,
+            &[
+                (post(0, &used, &none), Ok(Seen::Done)),
+                (close(0, 0, 800), Ok(Seen::Net(4_414))),
+                (correct(0, true, &used, &none), Ok(Seen::Difference(-505))),
+                (Call::Show { month: 0 }, Ok(Seen::Net(3_909))),
+                (correct(0, false, &used, &none), Ok(Seen::Difference(505))),
+            ],
+        )
     }
 
-    fn post_each(rt: &impl Abort, account: &mut Account<Standard>, start: u16, end: u16) {
+    fn post_each(rt: &impl Abort, account: &mut Account<Standard>, days: Range<u16>) {
         let (one, none) = (figures(100), [0; 48]);
-        for day in start..end {
-            assert_eq!(rt; done(account.post(day, false, &one, &none)), Seen::Done);
+        for day in days {
+            assert_eq!(rt; account.post(day, worked(&one, &none)), Ok(()));
         }
     }
 
     #[test]
     fn twelve_long_months(rt: HostRuntime) -> Result<(), Fail> {
-        let mut account = opened(36_105, &[35; 12])?;
-        post_each(&rt, &mut account, 385, 420);
-        assert_eq!(rt; done(account.strike(420)), refusal(20, 420));
-        assert_eq!(rt; settled(account.draft(0, 0, 800)), refusal(28, 0));
-        post_each(&rt, &mut account, 0, 34);
-        assert_eq!(rt; settled(account.draft(0, 0, 800)), refusal(28, 34));
-        post_each(&rt, &mut account, 34, 35);
+        let mut account = opened(Standard::new(10)?, 36_105, &[35; 12])?;
+        post_each(&rt, &mut account, 385..420);
+        assert_eq!(rt;
+            account.strike(420).map_err(Refusal::from),
+            refused(20, 420)
+        );
+        assert_eq!(rt; net(account.draft(PLAIN)), refused(28, 0));
+        post_each(&rt, &mut account, 0..34);
+        assert_eq!(rt; net(account.draft(PLAIN)), refused(28, 34));
+        post_each(&rt, &mut account, 34..35);
         // 35 kWh: 286,000 + 69,580 sen, and 800 yen.
-        assert_eq!(rt; settled(account.draft(0, 0, 800)), Seen::Net(4_355));
-        assert_eq!(rt; settled(account.close(0, 0, 800)), Seen::Net(4_355));
-        assert_eq!(rt; settled(account.draft(0, 0, 800)), refusal(28, 35));
+        assert_eq!(rt; net(account.draft(PLAIN)), Ok(4_355));
+        assert_eq!(rt; net(account.close(PLAIN)), Ok(4_355));
+        assert_eq!(rt; net(account.draft(PLAIN)), refused(28, 35));
         Ok(())
     }
 
     // The direct calls answer as the same calls do through `apply`.
     #[test]
     fn direct_calls(rt: HostRuntime) -> Result<(), Fail> {
-        let mut account = opened(0, &[1])?;
+        let mut account = opened(Standard::new(10)?, 0, &[1])?;
         let (one, two, none) = (figures(100), figures(200), [0; 48]);
-        assert_eq!(rt; done(account.post(0, false, &two, &none)), Seen::Done);
-        assert_eq!(rt; done(account.strike(0)), Seen::Done);
+        assert_eq!(rt; account.post(0, worked(&two, &none)), Ok(()));
+        assert_eq!(rt; account.strike(0), Ok(()));
         assert_eq!(rt;
-            difference(account.correct(0, false, &one, &none)),
-            refusal(24, 0)
+            account
+                .correct(0, worked(&one, &none))
+                .map_err(Refusal::from),
+            refused(24, 0)
         );
-        assert_eq!(rt; done(account.post(0, false, &one, &none)), Seen::Done);
-        assert_eq!(rt; settled(account.show(0)), refusal(29, 0));
-        assert_eq!(rt; settled(account.draft(0, 0, 800)), Seen::Net(3_679));
-        assert_eq!(rt; settled(account.close(0, 0, 800)), Seen::Net(3_679));
-        assert_eq!(rt;
-            difference(account.correct(0, false, &two, &none)),
-            Seen::Difference(20)
-        );
-        assert_eq!(rt; settled(account.show(0)), Seen::Net(3_699));
-        assert_eq!(rt; done(account.strike(0)), refusal(25, 0));
+        assert_eq!(rt; account.post(0, worked(&one, &none)), Ok(()));
+        assert_eq!(rt; net(account.show(0)), refused(29, 0));
+        assert_eq!(rt; net(account.draft(PLAIN)), Ok(3_679));
+        assert_eq!(rt; net(account.close(PLAIN)), Ok(3_679));
+        assert_eq!(rt; account.correct(0, worked(&two, &none)), Ok(20));
+        assert_eq!(rt; net(account.show(0)), Ok(3_699));
+        assert_eq!(rt; account.strike(0).map_err(Refusal::from), refused(25, 0));
         Ok(())
     }
 
     #[test]
     fn calls_through_apply(rt: HostRuntime) -> Result<(), Fail> {
-        let mut account = opened(0, &[1])?;
+        let mut account = opened(Standard::new(10)?, 0, &[1])?;
         let (one, two, none) = (figures(100), figures(200), [0; 48]);
         follow(
             &rt,
             &mut account,
             &[
-                (post(0, &two, &none), Seen::Done),
-                (Call::Strike { day: 0 }, Seen::Done),
-                (correct(0, false, &one, &none), refusal(24, 0)),
-                (post(0, &one, &none), Seen::Done),
-                (Call::Show { month: 0 }, refusal(29, 0)),
-                (draft(0, 0, 800), Seen::Net(3_679)),
-                (close(0, 0, 800), Seen::Net(3_679)),
-                (correct(0, false, &two, &none), Seen::Difference(20)),
-                (Call::Show { month: 0 }, Seen::Net(3_699)),
-                (Call::Strike { day: 0 }, refusal(25, 0)),
+                (post(0, &two, &none), Ok(Seen::Done)),
+                (Call::Strike { day: 0 }, Ok(Seen::Done)),
+                (correct(0, false, &one, &none), refused(24, 0)),
+                (post(0, &one, &none), Ok(Seen::Done)),
+                (Call::Show { month: 0 }, refused(29, 0)),
+                (draft(0, 0, 800), Ok(Seen::Net(3_679))),
+                (close(0, 0, 800), Ok(Seen::Net(3_679))),
+                (correct(0, false, &two, &none), Ok(Seen::Difference(20))),
+                (Call::Show { month: 0 }, Ok(Seen::Net(3_699))),
+                (Call::Strike { day: 0 }, refused(25, 0)),
             ],
         )
     }
@@ -457,17 +450,17 @@ mod tests {
             correct(0, false, &two, &none),
         ];
         let expected = [
-            Seen::Done,
-            refusal(23, 0),
-            Seen::Net(3_679),
-            Seen::Difference(20),
+            Ok(Seen::Done),
+            refused(23, 0),
+            Ok(Seen::Net(3_679)),
+            Ok(Seen::Difference(20)),
         ];
-        let replayed = replay(rt.alloc(), Standard::new(10)?, 'S', 0, &[1], &calls)?;
+        let replayed = replay(rt.alloc(), Standard::new(10)?, terms('S', 0, &[1]), &calls)?;
         assert_eq!(rt; replayed.answers.len(), 4);
         for (answer, expected) in replayed.answers.iter().zip(&expected) {
-            assert_eq!(rt; answered(*answer), *expected);
+            assert_eq!(rt; seen_in(*answer), *expected);
         }
-        assert_eq!(rt; settled(replayed.account.show(0)), Seen::Net(3_699));
+        assert_eq!(rt; net(replayed.account.show(0)), Ok(3_699));
         Ok(())
     }
 
@@ -477,13 +470,17 @@ mod tests {
         match replay(
             rt.alloc(),
             Standard::new(10)?,
-            'S',
-            0,
-            &[36],
+            terms('S', 0, &[36]),
             &[post(0, &none, &none)],
         ) {
             Err(ReplayFault::Refused(fault)) => {
-                assert_eq!(rt; refused(fault), refusal(15, 0));
+                assert_eq!(rt;
+                    Refusal::from(fault),
+                    Refusal {
+                        number: 15,
+                        place: 0
+                    }
+                );
                 Ok(())
             },
             _ => Err(Fail::new("not refused")),

@@ -1,22 +1,21 @@
 // What is asked for, and the month that it makes.
 ghost use Rattle.std.specs.Prelude.{◌≡◌, map, IfOk, Some, string_bytes};
 ghost use Rattle.tariff.specs.Discount.{discounted, discounted_tables};
-ghost use Rattle.tariff.specs.Plans.{numbered, numbered_tables, plan_meaning, plan_tables};
-ghost use Rattle.settlement.specs.Settlements.{prices_of};
+ghost use Rattle.tariff.specs.Kinds.{kind_numbered};
+ghost use Rattle.tariff.specs.Plans.{kind_of, numbered, numbered_tables, plan_meaning, plan_tables};
+ghost use Rattle.settlement.specs.Prices.{prices_of};
 ghost use Rattle.settlement.specs.Totals.{given_totals, month_of};
-ghost use Rattle.bill.specs.Kinds.{kind_of, kind_numbered};
-ghost use Rattle.bill.specs.Orders.{Ordered, all_counted};
-ghost use Rattle.bill.specs.Reasons.{plan_reason, month_reason, refusal_text};
-ghost use Rattle.bill.specs.Words.{box_named};
+ghost use Rattle.bill.specs.Orders.{Ordered};
+ghost use Rattle.bill.specs.Words.{box_named, counted};
 
-use crate::words::{lettered, read_byte, read_fuel, read_hundredths, read_price};
-use anyhow::anyhow;
+use crate::words::lettered;
+use anyhow::{Context, bail};
+use program::number::read;
+use program::refusal::refused;
 use settlement::deposit_box::DepositBox;
-use settlement::fault::MonthFault;
-use settlement::prices::Prices;
+use settlement::prices::{MonthPrices, Prices};
 use settlement::totals::Totals;
-use std::alloc::{AllocError, Global};
-use tariff::fault::PlanFault;
+use std::alloc::Global;
 use tariff::plan::Plan;
 
 const USAGE: &str =
@@ -25,16 +24,15 @@ const USAGE: &str =
 const BEYOND: &str =
     "refused: used energy or surplus is not 0 to 4200000 hundredths of a kWh, the most of 35 days";
 
-// The words of the command line, as numbers.
+// The words of the command line, as numbers. A number too large for its type, or negative where none may be, is the largest
+// of its type, which the engine refuses, as it does a tariff or a box that does not exist.
 #[derive(Drop)]
 pub struct Order<'a> {
     pub tariff: u8,
     pub capacity: u8,
     pub percent: u8,
     pub letter: &'a str,
-    pub fuel: i16,
-    pub levy: u16,
-    pub buy: u16,
+    pub prices: MonthPrices,
     pub surplus: u32,
     pub used: Vec<u32>,
 }
@@ -47,49 +45,23 @@ pub struct Month {
     pub totals: Totals,
 }
 
-// What a clerk is told of a refusal.
-fn plan_reason(fault: PlanFault) -> &'static str
-    ensures { result.now ≡ plan_reason fault }
+// Hundredths of a kWh.
+fn hundredths(word: &String) -> anyhow::Result<u32>
+    ensures { IfOk result (λ n. n ≡ counted 4294967295 (string_bytes word.now)) }
 {
-    match fault {
-        PlanFault::Tariff => "the tariff is not 1 (Standard), 2 (Night) or 3 (Seasonal)",
-        PlanFault::Capacity => "the capacity is not 1 to 49",
-        PlanFault::Percent => "the percent is not 1 to 100",
-    }
+    read::<i64, u32>(word.as_str())
 }
 
-fn month_reason(fault: MonthFault) -> &'static str
-    ensures { result.now ≡ month_reason fault }
+// The same of each word.
+fn all_hundredths(alloc: Global, words: &[String]) -> anyhow::Result<Vec<u32>>
+    ensures { IfOk result (λ v. v.items ≡ map (λ word. counted 4294967295 (string_bytes word)) words.now) }
 {
-    match fault {
-        MonthFault::UnknownBox => "the box is not S, M, L, T or R",
-        MonthFault::Price => "fuel is not -10000 to 10000, or levy or buy not 0 to 10000",
-    }
-}
-
-fn refusal_text(heap: Global, number: u8, why: &str) -> Result<String, AllocError>
-    ensures { IfOk result (λ t. string_bytes t ≡ refusal_text number why.now) }
-{
-    format!(in heap; "refused ({number}): {why}")
-}
-
-fn refusal(heap: Global, number: u8, why: &str) -> Result<anyhow::Error, AllocError> {
-    Ok(anyhow!(refusal_text(heap, number, why)?))
-}
-
-fn all_hundredths(heap: Global, words: &[String]) -> anyhow::Result<Vec<u32>>
-    ensures { IfOk result (λ v. v.items ≡ all_counted 4294967295 (map string_bytes words.now)) }
-{
-    let mut all = Vec::new(heap);
-    for word in words {
-        all.push(read_hundredths(heap, word.as_str())?)?;
-    }
-    Ok(all)
+    words.iter().map(hundredths).try_collect(alloc)
 }
 
 impl<'a> Order<'a> {
-    pub fn read(heap: Global, words: &'a [String]) -> anyhow::Result<Order<'a>>
-        ensures { IfOk result (λ o. Ordered (map string_bytes words.now) o.tariff o.capacity o.percent o.letter.now o.fuel o.levy o.buy o.surplus o.used.items) }
+    pub fn read(alloc: Global, words: &'a [String]) -> anyhow::Result<Order<'a>>
+        ensures { IfOk result (λ o. Ordered (map string_bytes words.now) o.tariff o.capacity o.percent o.letter.now o.prices o.surplus o.used.items) }
     {
         let [
             _,
@@ -97,74 +69,46 @@ impl<'a> Order<'a> {
             capacity,
             percent,
             letter,
-            fuel_price,
+            fuel,
             levy,
             buy,
             surplus,
             used @ ..,
         ] = words
         else {
-            return Err(anyhow!(USAGE));
+            bail!(USAGE);
         };
         if used.is_empty() || used.len() > 4 {
-            return Err(anyhow!(USAGE));
+            bail!(USAGE);
         }
         Ok(Order {
-            tariff: read_byte(heap, tariff.as_str())?,
-            capacity: read_byte(heap, capacity.as_str())?,
-            percent: read_byte(heap, percent.as_str())?,
+            tariff: read::<i64, u8>(tariff.as_str())?,
+            capacity: read::<i64, u8>(capacity.as_str())?,
+            percent: read::<i64, u8>(percent.as_str())?,
             letter: letter.as_str(),
-            fuel: read_fuel(heap, fuel_price.as_str())?,
-            levy: read_price(heap, levy.as_str())?,
-            buy: read_price(heap, buy.as_str())?,
-            surplus: read_hundredths(heap, surplus.as_str())?,
-            used: all_hundredths(heap, used)?,
+            prices: MonthPrices {
+                fuel: read::<i64, i16>(fuel.as_str())?,
+                levy: read::<i64, u16>(levy.as_str())?,
+                buy: read::<i64, u16>(buy.as_str())?,
+            },
+            surplus: read::<i64, u32>(surplus.as_str())?,
+            used: all_hundredths(alloc, used)?,
         })
     }
 
-    pub fn plan(&self, heap: Global) -> anyhow::Result<Plan>
+    pub fn plan(&self) -> anyhow::Result<Plan>
         ensures meaning { IfOk result (λ p. (plan_meaning p ≡ discounted self.now.percent (numbered self.now.tariff self.now.capacity)) × (plan_tables p ≡ discounted_tables self.now.percent (numbered_tables self.now.tariff))) }
-        ensures kind { IfOk result (λ p. kind_of p ≡ kind_numbered self.now.tariff) }
+        ensures kind { IfOk result (λ p. kind_numbered self.now.tariff ≡ Some (kind_of p)) }
     {
-        match Plan::new(self.tariff, self.capacity, self.percent) {
-            Ok(plan) => Ok(plan),
-            Err(fault) => Err(refusal(heap, fault.number(), plan_reason(fault))?),
-        }
+        Plan::new(self.tariff, self.capacity, self.percent).map_err(refused)
     }
 
-    fn prices(&self, heap: Global) -> anyhow::Result<Prices>
-        ensures { IfOk result (λ p. prices_of p ≡ record { fuel = self.now.fuel; levy = self.now.levy; buy = self.now.buy }) }
+    pub fn month(&self) -> anyhow::Result<Month>
+        ensures { IfOk result (λ m. (box_named self.now.letter.now ≡ Some m.deposit_box) × (prices_of m.prices ≡ self.now.prices) × (given_totals self.now.used.items self.now.surplus ≡ Some (month_of m.totals))) }
     {
-        match Prices::new(self.fuel, self.levy, self.buy) {
-            Ok(prices) => Ok(prices),
-            Err(fault) => Err(refusal(heap, fault.number(), month_reason(fault))?),
-        }
-    }
-
-    fn deposit_box(&self, heap: Global) -> anyhow::Result<DepositBox>
-        ensures { IfOk result (λ b. box_named self.now.letter.now ≡ Some b) }
-    {
-        match lettered(self.letter) {
-            Ok(deposit_box) => Ok(deposit_box),
-            Err(fault) => Err(refusal(heap, fault.number(), month_reason(fault))?),
-        }
-    }
-
-    fn totals(&self) -> anyhow::Result<Totals>
-        ensures { IfOk result (λ t. given_totals self.now.used.items self.now.surplus ≡ Some (month_of t)) }
-    {
-        match Totals::new(&self.used, self.surplus) {
-            Some(totals) => Ok(totals),
-            None => Err(anyhow!(BEYOND)),
-        }
-    }
-
-    pub fn month(&self, heap: Global) -> anyhow::Result<Month>
-        ensures { IfOk result (λ m. (box_named self.now.letter.now ≡ Some m.deposit_box) × (prices_of m.prices ≡ record { fuel = self.now.fuel; levy = self.now.levy; buy = self.now.buy }) × (given_totals self.now.used.items self.now.surplus ≡ Some (month_of m.totals))) }
-    {
-        let deposit_box = self.deposit_box(heap)?;
-        let prices = self.prices(heap)?;
-        let totals = self.totals()?;
+        let deposit_box = lettered(self.letter).map_err(refused)?;
+        let prices = Prices::try_from(self.prices).map_err(refused)?;
+        let totals = Totals::new(&self.used, self.surplus).context(BEYOND)?;
         Ok(Month {
             deposit_box,
             prices,

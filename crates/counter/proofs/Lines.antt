@@ -3,7 +3,7 @@ use Rattle.std.proofs.Common.{◌≡◌, ℕ, zero, suc, ◌+◌, ◌≤◌, Lis
 use Rattle.std.proofs.lemmas.Int.{ints}
 use Rattle.account.specs.History.{int_sum}
 use Rattle.line.specs.declared.line.Line.{Line}
-use Rattle.line.specs.declared.line.Outcome.{Outcome}
+use Rattle.tariff.specs.declared.refusal.Refusal.{Refusal}
 use Rattle.slip.specs.Exact.{Exact}
 use Rattle.slip.specs.Format.{Slip, opening, post, correct, strike, close, slip_bytes}
 use Rattle.slip.specs.Reading.{reads_as}
@@ -35,7 +35,7 @@ unfolding lines
 reads_line left number book [] r some e = absurd (omega arith)
 reads_line left number book (first ∷ bs) r some e = ap (line_then (lines left (number + 1)) number first book) e
 
-module _ (number : ℕ) (book next : Book) (bs rest : List ℕ) (some : 1 ≤ length bs) (what : Outcome) where
+module _ (number : ℕ) (book next : Book) (bs rest : List ℕ) (some : 1 ≤ length bs) (what : Result ℤ Refusal) where
   pub slip_line : (slip : Slip) → reads_as bs ≡ Ok (slip, rest) → what ≡ shown (outcome book slip) → next ≡ turned book slip
       → (left : ℕ) → lines (suc left) number book bs ≡ record { number = number; letter = get_or bs 0 0; outcome = what } ∷ lines left (number + 1) next rest
   slip_line slip e what-is next-is left =

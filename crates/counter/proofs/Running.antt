@@ -4,7 +4,7 @@ use Rattle.line.specs.Lines.{line_bytes, written}
 use Rattle.line.specs.declared.line.Line.{Line}
 use Rattle.line.proofs.Written.{written_more, written_front}
 use Rattle.counter.specs.Book.{Book}
-use Rattle.counter.specs.Run.{lines, run_lines, all_bytes, most_bytes}
+use Rattle.counter.specs.Run.{lines, run_lines, all_bytes}
 use Rattle.counter.proofs.Lines.{lines_none, lines_over}
 
 module _ (book : Book) (input before : List ℕ) where
@@ -47,9 +47,6 @@ module _ (book : Book) (input before : List ℕ) where
 
       pub ran_count : at ≡ length (all_bytes (run_lines book input))
       ran_count = ran.place ∙ ap length (sym all_is)
-
-      pub ran_most : at ≤ most_bytes (length input)
-      ran_most = omega (arith, ran.few, ran.fewer)
 
       pub ran_bytes : at ≤ length before → out ≡ all_bytes (run_lines book input) ++ drop at before
       ran_bytes h = written_front before ran.text (ran.bytes h) ran.place ∙ ap (λ l. l ++ drop at before) (sym all_is)

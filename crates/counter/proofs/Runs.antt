@@ -4,7 +4,8 @@ use mathlib.Core.List.{map-append}
 use Rattle.std.proofs.lemmas.Int.{ints}
 use Rattle.std.proofs.lemmas.Bool.{ltb-true}
 use Rattle.std.specs.Option.{option_map}
-use Rattle.settlement.specs.Settling.{MonthPrices, numbers}
+use Rattle.settlement.specs.Settling.{numbers}
+use Rattle.settlement.specs.declared.prices.MonthPrices.{MonthPrices}
 use Rattle.settlement.specs.Totals.{MonthTotals}
 use Rattle.account.proofs.Complete.{open_totalled}
 use Rattle.account.proofs.Unrefused.{needed}

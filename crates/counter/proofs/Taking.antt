@@ -40,17 +40,17 @@ module _ (o : Opening) (l : Ledger) where
   after_turned r None = refl
   after_turned r (Some fault) = refl
 
-module _ {S : Type 0} (whole : S → Meaning) (tables : S → List (List Step)) (a b : Account S) (s : Slip) (r : Request) (reply : Reply) (is : asked s ≡ a_call r) (k : Keeps (whole a.supply) (tables a.supply) a b r reply) where
+module _ {S : Type 0} (whole : S → Meaning) (tables : S → List (List Step)) (a b : Account S) (s : Slip) (r : Request) (reply : Reply) (is : asked s ≡ a_call r) (k : Keeps whole tables a b r reply) where
   pub answers : told r reply ≡ outcome (Some (entry_of whole tables a)) s
   answers =
-      let o = opening_of (whole a.supply) (tables a.supply) a in
+      let o = opening_of whole tables a in
       let l = ledger_of a in
       told_right o l r reply (request_ground o l r) k.law.answers
       ∙ ap (λ (x : Asked). answered (ground_against (Some (o, l)) x) (yen_asked (Some (o, l)) x)) (sym is)
 
   pub turns : ◌≡◌ {A = Book} (Some (entry_of whole tables b)) (turned (Some (entry_of whole tables a)) s)
   turns =
-      let o = opening_of (whole a.supply) (tables a.supply) a in
+      let o = opening_of whole tables a in
       let l = ledger_of a in
       let leads : ◌≡◌ {A = Book} (Some (entry_of whole tables b)) (Some (o, after o l r)) = λ i. Some (same_opening whole tables a b k.opening i, k.law.ledger i) in
       leads

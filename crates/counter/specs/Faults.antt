@@ -1,5 +1,6 @@
 -- The refusals of the counter, by number and place.
-use Rattle.tariff.specs.Faults.{Refusal, plan_refusal}
+use Rattle.tariff.specs.Faults.{plan_refusal}
+use Rattle.tariff.specs.declared.refusal.Refusal.{Refusal}
 use Rattle.account.specs.Faults.{account_refusal}
 use Rattle.slip.specs.Faults.{slip_refusal}
 use Rattle.counter.specs.declared.fault.CounterFault.{CounterFault}

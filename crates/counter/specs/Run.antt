@@ -1,13 +1,12 @@
 -- A run: the slips of an input taken one after another, and the lines that it writes.
 use Rattle.std.specs.Prelude.{◌≡◌, ℕ, zero, suc, ◌+◌, ◌*◌, ◌<◌, ◌≤◌, min, List, [], ◌∷◌, ◌++◌, map, length, drop, ℤ, pos, Some, None, Ok, Err, Result}
+use Rattle.tariff.specs.declared.refusal.Refusal.{Refusal}
 use Rattle.account.specs.History.{int_sum, closed_nets}
 use Rattle.account.specs.Ledger.{Opening, Ledger}
 use Rattle.line.specs.Lines.{line_bytes}
 use Rattle.line.specs.declared.fault.LineFault.{LineFault}
 use Rattle.line.specs.declared.fault.LineFault.TheVariants.{Buffer}
 use Rattle.line.specs.declared.line.Line.{Line}
-use Rattle.line.specs.declared.line.Outcome.{Outcome}
-use Rattle.line.specs.declared.line.Outcome.TheVariants.{Done, Refused}
 use Rattle.slip.specs.Format.{Slip}
 use Rattle.slip.specs.Reading.{reads_as}
 use Rattle.slip.specs.declared.fault.SlipFault.{SlipFault}
@@ -32,9 +31,9 @@ pub record NoSlip (bs : List ℕ) (fault : CounterFault) : Type 0 where
   pub carries : fault ≡ NotRead unread
 
 -- what became of a slip, as its line has it
-abbrev pub shown : Result ℤ CounterFault → Outcome
-shown (Ok yen) = Done yen
-shown (Err fault) = Refused (counter_refusal fault).number (counter_refusal fault).place
+abbrev pub shown : Result ℤ CounterFault → Result ℤ Refusal
+shown (Ok yen) = Ok yen
+shown (Err fault) = Err (counter_refusal fault)
 
 -- the letter on the line of bytes that are not a slip: their first byte, or a question mark where that is no letter of a slip
 abbrev pub letter_shown : ℕ → SlipFault → ℕ
@@ -105,9 +104,9 @@ RunTold input =
     × (map (λ line. line.outcome) (run_lines None input) ≡ map shown (outcomes None (taken input) ++ map (λ fault. Err (NotRead fault)) ending))
 
 -- the yen on a line: a refusal has none
-abbrev pub yen_shown : Outcome → ℤ
-yen_shown (Done yen) = yen
-yen_shown (Refused number place) = pos 0
+abbrev pub yen_shown : Result ℤ Refusal → ℤ
+yen_shown (Ok yen) = yen
+yen_shown (Err refusal) = pos 0
 
 abbrev pub yen_on : Line → ℤ
 yen_on line = yen_shown line.outcome

@@ -6,7 +6,8 @@ use Rattle.tariff.specs.Plans.{plan_meaning, plan_tables}
 use Rattle.tariff.specs.Steps.{Step}
 use Rattle.tariff.specs.declared.discount.Discount.{Discount}
 use Rattle.tariff.specs.declared.night.Night.{Night as NightTariff}
-use Rattle.tariff.specs.declared.plan.Plan.TheVariants as plan
+use Rattle.tariff.specs.declared.plan.ByTariff.{ByTariff}
+use Rattle.tariff.specs.declared.plan.ByTariff.TheVariants.{Standard, Night, Seasonal}
 use Rattle.tariff.specs.declared.seasonal.Seasonal.{Seasonal as SeasonalTariff}
 use Rattle.tariff.specs.declared.standard.Standard.{Standard as StandardTariff}
 use Rattle.account.specs.Ledger.{Opening, Ledger}
@@ -14,12 +15,10 @@ use Rattle.account.specs.View.{opening_of, ledger_of}
 use Rattle.account.specs.declared.account.Account.{Account}
 use Rattle.counter.specs.Book.{Book}
 use Rattle.counter.specs.declared.counter.Counter.{Counter}
-use Rattle.counter.specs.declared.open_account.ByTariff.{ByTariff}
-use Rattle.counter.specs.declared.open_account.ByTariff.TheVariants.{Standard, Night, Seasonal}
 
 -- what an account was opened with, and its ledger, over a supply of this meaning and these tables
 abbrev pub entry_of : {S : Type 0} → (S → Meaning) → (S → List (List Step)) → Account S → Opening × Ledger
-entry_of whole tables a = (opening_of (whole a.supply) (tables a.supply) a, ledger_of a)
+entry_of whole tables a = (opening_of whole tables a, ledger_of a)
 
 -- the same of whichever of three is there
 abbrev pub by_tariff : {A B C X : Type 0} → (A → X) → (B → X) → (C → X) → ByTariff A B C → X
@@ -31,9 +30,9 @@ by_tariff f g h (Seasonal c) = h c
 abbrev pub account_entry : ByTariff (Account (Discount StandardTariff)) (Account (Discount NightTariff)) (Account (Discount SeasonalTariff)) → Opening × Ledger
 account_entry =
     by_tariff
-    (entry_of (λ d. plan_meaning (plan.Standard d)) (λ d. plan_tables (plan.Standard d)))
-    (entry_of (λ d. plan_meaning (plan.Night d)) (λ d. plan_tables (plan.Night d)))
-    (entry_of (λ d. plan_meaning (plan.Seasonal d)) (λ d. plan_tables (plan.Seasonal d)))
+    (entry_of (λ d. plan_meaning (Standard d)) (λ d. plan_tables (Standard d)))
+    (entry_of (λ d. plan_meaning (Night d)) (λ d. plan_tables (Night d)))
+    (entry_of (λ d. plan_meaning (Seasonal d)) (λ d. plan_tables (Seasonal d)))
 
 abbrev pub book_of : Counter → Book
 book_of c = option_map account_entry c.account

@@ -2,10 +2,11 @@ ghost use Rattle.std.specs.Prelude.{◌≡◌};
 ghost use Rattle.counter.specs.Faults.{counter_refusal};
 ghost use Rattle.counter.specs.declared.fault.CounterFault.TheVariants.{Slip, Plan, Account};
 
-use account::account::Unopened;
 use account::fault::AccountFault;
 use slip::fault::SlipFault;
 use tariff::fault::PlanFault;
+use tariff::refusal::Refusal;
+use tariff::refused::Refused;
 
 /// Why the counter refuses a slip.
 #[derive(Clone, Copy, PartialEq, Eq, Debug)]
@@ -21,6 +22,8 @@ pub enum CounterFault {
     /// The account refuses the opening or the call.
     Account(AccountFault),
 }
+
+// Each of these names its case, so that a contract knows which fault a `?` carries up; of a derived one it would not.
 
 impl From<SlipFault> for CounterFault {
     ghost from_gives = { λ e r. r ≡ Slip e };
@@ -46,36 +49,31 @@ impl From<AccountFault> for CounterFault {
     }
 }
 
-impl<S: Drop> From<Unopened<S>> for CounterFault {
+impl<S: Drop> From<Refused<S, AccountFault>> for CounterFault {
     ghost from_gives = { λ e r. r ≡ Account e.fault };
 
-    fn from(e: Unopened<S>) -> CounterFault {
+    fn from(e: Refused<S, AccountFault>) -> CounterFault {
         CounterFault::Account(e.fault)
     }
 }
 
-impl CounterFault {
-    pub fn number(self) -> u8
-        ensures { result ≡ (counter_refusal self).number }
-    {
-        match self {
-            CounterFault::Slip(fault) => fault.number(),
-            CounterFault::NotOpen => 17,
-            CounterFault::AlreadyOpen => 18,
-            CounterFault::Plan(fault) => fault.number(),
-            CounterFault::Account(fault) => fault.number(),
-        }
-    }
+/// The place is what the refusal is about: a byte of the slip, a day of the account, or 0.
+impl From<CounterFault> for Refusal {
+    ghost from_gives = { λ fault refusal. refusal ≡ counter_refusal fault };
 
-    /// The place that the refusal is about: a byte of the slip, a day of the account, or 0.
-    pub fn place(self) -> u16
-        ensures { result ≡ (counter_refusal self).place }
-    {
-        match self {
-            CounterFault::Slip(fault) => fault.place(),
-            CounterFault::NotOpen | CounterFault::AlreadyOpen => 0,
-            CounterFault::Plan(fault) => fault.place(),
-            CounterFault::Account(fault) => fault.place(),
+    fn from(fault: CounterFault) -> Refusal {
+        match fault {
+            CounterFault::Slip(fault) => fault.into(),
+            CounterFault::NotOpen => Refusal {
+                number: 17,
+                place: 0,
+            },
+            CounterFault::AlreadyOpen => Refusal {
+                number: 18,
+                place: 0,
+            },
+            CounterFault::Plan(fault) => fault.into(),
+            CounterFault::Account(fault) => fault.into(),
         }
     }
 }

@@ -3,5 +3,4 @@
 
 pub mod counter;
 pub mod fault;
-pub mod open_account;
 pub mod settle;

@@ -2,35 +2,22 @@ ghost use Rattle.std.specs.Prelude.{◌≡◌, ℕ, suc, ◌+◌, ◌*◌, ◌<�
 ghost use Rattle.line.specs.Lines.{line_bytes, written};
 ghost use Rattle.slip.specs.declared.fault.SlipFault.{SlipFault as Unread};
 ghost use Rattle.counter.specs.declared.fault.CounterFault.TheVariants.{Slip};
-ghost use Rattle.counter.specs.Run.{TakenSlip, NoSlip, shown, letter_shown, lines, run_lines, all_bytes, run_bytes, most_bytes, Settled, RunTold, RunLaw};
+ghost use Rattle.counter.specs.Run.{TakenSlip, NoSlip, letter_shown, lines, run_lines, all_bytes, run_bytes, most_bytes, Settled, RunTold, RunLaw};
 ghost use Rattle.counter.specs.View.{book_of};
 
 use crate::counter::Counter;
 use crate::fault::CounterFault;
 use line::fault::LineFault;
-use line::line::{Line, Outcome};
+use line::line::Line;
 use slip::fault::SlipFault;
 use slip::reader::Reader;
+use tariff::refusal::Refusal;
 
 // The number of the last line that a run can have.
 const LAST_LINE: u32 = 999_999;
 
 // The bytes of the longest line.
 const LONGEST_LINE: usize = 33;
-
-// What a slip answered, and the bytes behind it.
-#[derive(Clone, Copy)]
-struct Served<'a> {
-    answer: Result<i64, CounterFault>,
-    rest: &'a [u8],
-}
-
-// A line, and the bytes that are left behind its slip.
-#[derive(Clone, Copy)]
-struct Taken<'a> {
-    line: Line,
-    rest: &'a [u8],
-}
 
 /// Takes the slips of `input` from an empty book on and writes their lines at the front of `out`. Answers the count of
 /// the bytes written. A buffer that is too short is left as it was.
@@ -76,51 +63,52 @@ fn run(counter: &mut Counter, input: &[u8], out: &mut [u8]) -> usize
         if rest.is_empty() {
             return at;
         }
-        let taken = take_slip(counter, number, rest);
-        at = put(out, at, &taken.line);
-        rest = taken.rest;
+        let (line, behind) = take_slip(counter, number, rest);
+        at = put(out, at, &line);
+        rest = behind;
     }
     at
 }
 
 // Takes the slip at the front of `text`. Behind bytes that are not a slip nothing is left.
-fn take_slip<'a>(counter: &mut Counter, number: u32, text: &'a [u8]) -> Taken<'a>
+fn take_slip<'a>(counter: &mut Counter, number: u32, text: &'a [u8]) -> (Line, &'a [u8])
     requires { 1 ≤ length text.now }
-    ensures line { (left : ℕ) → lines (suc left) number (book_of counter.old) text.now ≡ result.line ∷ lines left (number + 1) (book_of counter.new) result.rest.now }
-    ensures numbered { result.line.number ≡ number }
-    ensures shorter { length result.rest.now < length text.now }
+    ensures line { (left : ℕ) → lines (suc left) number (book_of counter.old) text.now ≡ result.0 ∷ lines left (number + 1) (book_of counter.new) result.1.now }
+    ensures numbered { result.0.number ≡ number }
+    ensures shorter { length result.1.now < length text.now }
 {
     let first = text[0];
     match serve(counter, text) {
-        Ok(served) => Taken {
-            line: Line {
+        Ok((answer, rest)) => (
+            Line {
                 number,
                 letter: first,
-                outcome: outcome_of(served.answer),
+                outcome: answer.map_err(Refusal::from),
             },
-            rest: served.rest,
-        },
-        Err(fault) => Taken {
-            line: Line {
+            rest,
+        ),
+        Err(fault) => (
+            Line {
                 number,
                 letter: letter_shown(first, fault),
-                outcome: outcome_of(Err(fault)),
+                outcome: Err(fault.into()),
             },
-            rest: &text[text.len()..],
-        },
+            &[],
+        ),
     }
 }
 
-// Reads the slip at the front of `text` and takes it. Bytes that are not a slip are not taken.
-fn serve<'a>(counter: &mut Counter, text: &'a [u8]) -> Result<Served<'a>, CounterFault>
-    ensures answer { elim result [ Ok served ↦ TakenSlip (book_of counter.old) text.now (book_of counter.new) served.answer served.rest.now | Err fault ↦ NoSlip text.now fault ] }
-    ensures shorter { IfOk result (λ served. length served.rest.now < length text.now) }
+// Reads the slip at the front of `text` and takes it: its answer, and the bytes behind it. Bytes that are not a slip are
+// not taken.
+fn serve<'a>(
+    counter: &mut Counter,
+    text: &'a [u8],
+) -> Result<(Result<i64, CounterFault>, &'a [u8]), CounterFault>
+    ensures answer { elim result [ Ok served ↦ TakenSlip (book_of counter.old) text.now (book_of counter.new) served.0 served.1.now | Err fault ↦ NoSlip text.now fault ] }
+    ensures shorter { IfOk result (λ served. length served.1.now < length text.now) }
 {
     let read = (Reader { text }).read_slip()?;
-    Ok(Served {
-        answer: counter.take(&read.slip),
-        rest: read.rest,
-    })
+    Ok((counter.take(&read.slip), read.rest))
 }
 
 // The letter on the line of bytes that are not a slip.
@@ -133,20 +121,8 @@ fn letter_shown(first: u8, fault: CounterFault) -> u8
     }
 }
 
-// What became of a slip, as its line has it.
-fn outcome_of(answer: Result<i64, CounterFault>) -> Outcome
-    ensures { result ≡ shown answer }
-{
-    match answer {
-        Ok(yen) => Outcome::Done(yen),
-        Err(fault) => Outcome::Refused {
-            number: fault.number(),
-            place: fault.place(),
-        },
-    }
-}
-
-// Writes a line at a place of `out` if it fits there, and answers the place behind it.
+// Writes a line at a place of `out` if it fits there, and answers the place behind it. A run is measured on a buffer that
+// holds none of it, so the place goes on where a pen would stop.
 fn put(out: &mut [u8], at: usize, line: &Line) -> usize
     requires { (at ≤ 33 * 999999) × (line.now.number ≤ 999999) }
     ensures place { result ≡ at + length (line_bytes line.now) }
@@ -155,7 +131,7 @@ fn put(out: &mut [u8], at: usize, line: &Line) -> usize
 {
     let end = at + line.length();
     if end <= out.len() {
-        let _ = line.write(&mut out[at..]);
+        line.write(&mut out[at..]).unwrap();
     }
     end
 }

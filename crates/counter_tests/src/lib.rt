@@ -4,29 +4,14 @@
 #[cfg(test)]
 mod tests {
     use counter::counter::Counter;
-    use counter::fault::CounterFault;
-    use slip::slip::{Entry, Opening, Slip};
+    use settlement::prices::MonthPrices;
+    use settlement::reading::DayFigures;
+    use slip::slip::{Opening, Slip};
     use std::process::Abort;
+    use tariff::refusal::Refusal;
 
-    // What is looked at of an answer: its yen, or the refusal's number and place.
-    #[derive(Clone, Copy, PartialEq, Eq, Debug)]
-    enum Seen {
-        Yen(i64),
-        Refused { number: u8, place: u16 },
-    }
-
-    fn looked_at(res: Result<i64, CounterFault>) -> Seen {
-        match res {
-            Ok(yen) => Seen::Yen(yen),
-            Err(fault) => Seen::Refused {
-                number: fault.number(),
-                place: fault.place(),
-            },
-        }
-    }
-
-    fn refusal(number: u8, place: u16) -> Seen {
-        Seen::Refused { number, place }
+    fn refusal(number: u8, place: u16) -> Result<i64, Refusal> {
+        Err(Refusal { number, place })
     }
 
     // An order of 10 kVA at full price, from the first day of the calendar on, for a single day.
@@ -42,11 +27,10 @@ mod tests {
     }
 
     // A day with all its use in the first half-hour.
-    fn entry(day: u16, hundredths: u16) -> Entry {
+    fn figures(hundredths: u16) -> DayFigures<[u16; 48]> {
         let mut used = [0; 48];
         used[0] = hundredths;
-        Entry {
-            day,
+        DayFigures {
             rest: false,
             used,
             surplus: [0; 48],
@@ -58,18 +42,18 @@ mod tests {
     }
 
     fn closing<'a>() -> Slip<'a> {
-        Slip::Close {
+        Slip::Close(MonthPrices {
             fuel: 0,
             levy: 0,
             buy: 800,
-        }
+        })
     }
 
     // Takes slips in order, each with the answer that it must have.
-    fn follow(rt: &impl Abort, steps: &[(Slip, Seen)]) {
+    fn follow(rt: &impl Abort, steps: &[(Slip, Result<i64, Refusal>)]) {
         let mut counter = Counter::new();
         for (slip, expected) in steps {
-            assert_eq!(rt; looked_at(counter.take(slip)), *expected);
+            assert_eq!(rt; counter.take(slip).map_err(Refusal::from), *expected);
         }
     }
 
@@ -78,10 +62,22 @@ mod tests {
         follow(
             &rt,
             &[
-                (order(1, b'S'), Seen::Yen(0)),
-                (Slip::Post(entry(0, 100)), Seen::Yen(0)),
-                (closing(), Seen::Yen(3_679)),
-                (Slip::Correct(entry(0, 200)), Seen::Yen(20)),
+                (order(1, b'S'), Ok(0)),
+                (
+                    Slip::Post {
+                        day: 0,
+                        figures: figures(100),
+                    },
+                    Ok(0),
+                ),
+                (closing(), Ok(3_679)),
+                (
+                    Slip::Correct {
+                        day: 0,
+                        figures: figures(200),
+                    },
+                    Ok(20),
+                ),
                 (strike(0), refusal(25, 0)),
             ],
         );
@@ -94,7 +90,7 @@ mod tests {
             &[
                 (strike(0), refusal(17, 0)),
                 (closing(), refusal(17, 0)),
-                (order(2, b'T'), Seen::Yen(0)),
+                (order(2, b'T'), Ok(0)),
                 (order(9, b'T'), refusal(18, 0)),
             ],
         );
@@ -108,7 +104,7 @@ mod tests {
                 (order(4, b'X'), refusal(10, 0)),
                 (order(3, b'X'), refusal(13, 0)),
                 (strike(0), refusal(17, 0)),
-                (order(3, b'R'), Seen::Yen(0)),
+                (order(3, b'R'), Ok(0)),
                 (strike(1), refusal(20, 1)),
             ],
         );

@@ -10,7 +10,8 @@ use Rattle.tariff.specs.declared.fuel.Area.TheVariants.{Kansai}
 use Rattle.tariff.specs.declared.fuel.FuelPrice.{FuelPrice}
 use Rattle.settlement.specs.Boxes.{fee}
 use Rattle.settlement.specs.Charges.{credit_sen}
-use Rattle.settlement.specs.Settling.{MonthPrices, Numbers, Charges, numbers}
+use Rattle.settlement.specs.Settling.{Numbers, Charges, numbers}
+use Rattle.settlement.specs.declared.prices.MonthPrices.{MonthPrices}
 use Rattle.settlement.specs.Totals.{given_totals}
 use Rattle.settlement.specs.Usage.{whole_kwh}
 use Rattle.settlement.specs.declared.deposit_box.DepositBox.{DepositBox}

@@ -4,8 +4,6 @@
 ghost use Rattle.figures.specs.Figures.{FiguresHold};
 
 /// Every figure of the table follows from the definitions that the engine's contracts cite.
-pub fn figures_stand() -> u8
+pub fn figures_stand()
     ensures { FiguresHold }
-{
-    0
-}
+{}

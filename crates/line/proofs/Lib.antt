@@ -1,4 +1,2 @@
-pub mod Digits
 pub mod Examples
-pub mod Lengths
 pub mod Written

@@ -1,5 +1,5 @@
 -- The refusal of writing a line, by number and place.
-use Rattle.tariff.specs.Faults.{Refusal}
+use Rattle.tariff.specs.declared.refusal.Refusal.{Refusal}
 use Rattle.line.specs.declared.fault.LineFault.{LineFault}
 use Rattle.line.specs.declared.fault.LineFault.TheVariants.{Buffer}
 

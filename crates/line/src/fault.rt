@@ -1,6 +1,8 @@
 ghost use Rattle.std.specs.Prelude.{◌≡◌};
 ghost use Rattle.line.specs.Faults.{line_refusal};
 
+use tariff::refusal::Refusal;
+
 /// Why a line is not written.
 #[derive(Clone, Copy, PartialEq, Eq, Debug)]
 pub enum LineFault {
@@ -8,16 +10,15 @@ pub enum LineFault {
     Buffer,
 }
 
-impl LineFault {
-    pub fn number(self) -> u8
-        ensures { result ≡ (line_refusal self).number }
-    {
-        40
-    }
+impl From<LineFault> for Refusal {
+    ghost from_gives = { λ fault refusal. refusal ≡ line_refusal fault };
 
-    pub fn place(self) -> u16
-        ensures { result ≡ (line_refusal self).place }
-    {
-        0
+    fn from(fault: LineFault) -> Refusal {
+        match fault {
+            LineFault::Buffer => Refusal {
+                number: 40,
+                place: 0,
+            },
+        }
     }
 }

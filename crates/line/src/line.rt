@@ -1,22 +1,18 @@
-ghost use Rattle.std.specs.Prelude.{◌≡◌, ◌+◌, ◌≤◌, length, decimal};
-ghost use Rattle.std.specs.Fmt.{signed_decimal};
-ghost use Rattle.line.specs.Lines.{outcome_bytes, line_bytes, written, LineWritten};
+ghost use Rattle.std.specs.Prelude.{◌≡◌, ◌+◌, ◌≤◌, length};
+ghost use Rattle.line.specs.Lines.{outcome_bytes, line_bytes, LineWritten, HasRoom, Wrote};
 
 use crate::fault::LineFault;
+use crate::pen::Pen;
+use itoa::{Buffer, Integer};
+use tariff::refusal::Refusal;
 
-/// What became of a call: the amount it was answered with, or its refusal.
-#[derive(Clone, Copy)]
-pub enum Outcome {
-    Done(i64),
-    Refused { number: u8, place: u16 },
-}
-
-/// A line of a run: the call's number, its letter and what became of it.
+/// A line of a run: the call's number, its letter and what became of it: the amount it was answered with, or its
+/// refusal.
 #[derive(Clone, Copy)]
 pub struct Line {
     pub number: u32,
     pub letter: u8,
-    pub outcome: Outcome,
+    pub outcome: Result<i64, Refusal>,
 }
 
 impl Line {
@@ -25,7 +21,7 @@ impl Line {
         ensures count { result ≡ length (line_bytes self.now) }
         ensures bound { self.now.number ≤ 999999 → result ≤ 33 }
     {
-        digits(u64::from(self.number)) + 3 + outcome_length(self.outcome) + 1
+        decimal_length(self.number) + 3 + outcome_length(self.outcome) + 1
     }
 
     /// Writes the line at the front of `out`, and answers the count of its bytes. A buffer that is too short is
@@ -37,114 +33,47 @@ impl Line {
         if out.len() < self.length() {
             return Err(LineFault::Buffer);
         }
-        let at = put_decimal(out, 0, u64::from(self.number));
-        let at = put(out, at, &[b' ', self.letter, b' ']);
-        let at = put_outcome(out, at, self.outcome);
-        Ok(put(out, at, b"\n"))
+        // The letter is any byte, and a `Display` writes text.
+        let mut pen = Pen::new(out);
+        pen.put_decimal(self.number);
+        pen.put(&[b' ', self.letter, b' ']);
+        put_outcome(&mut pen, self.outcome);
+        pen.put(b"\n");
+        Ok(pen.at)
     }
 }
 
-// How many digits a number has.
-fn digits(n: u64) -> usize
-    ensures count { result ≡ length (decimal n) }
-    ensures bound { result ≤ 20 }
+fn decimal_length<I: Integer>(n: I) -> usize
+    ensures count { result ≡ length (I.text n) }
+    ensures bound { result ≤ I.MAX_STR_LEN }
 {
-    let mut count = 1;
-    let mut rest = n;
-    while rest >= 10 {
-        rest /= 10;
-        count += 1;
-    }
-    count
+    Buffer::new().format(n).len()
 }
 
-fn signed_length(n: i64) -> usize
-    ensures count { result ≡ length (signed_decimal n) }
-    ensures bound { result ≤ 20 }
-{
-    if n < 0 {
-        1 + digits(n.unsigned_abs())
-    } else {
-        digits(n.unsigned_abs())
-    }
-}
-
-fn outcome_length(outcome: Outcome) -> usize
+fn outcome_length(outcome: Result<i64, Refusal>) -> usize
     ensures count { result ≡ length (outcome_bytes outcome) }
     ensures bound { result ≤ 23 }
 {
     match outcome {
-        Outcome::Done(amount) => 3 + signed_length(amount),
-        Outcome::Refused { number, place } => {
-            3 + digits(u64::from(number)) + 1 + digits(u64::from(place))
-        }
+        Ok(amount) => 3 + decimal_length(amount),
+        Err(Refusal { number, place }) => 3 + decimal_length(number) + 1 + decimal_length(place),
     }
 }
 
-// Fills a part with a number's digits, from its back.
-fn spell(part: &mut [u8], n: u64)
-    requires { length part.old ≡ length (decimal n) }
-    ensures { part.new ≡ decimal n }
-{
-    let mut at = part.len();
-    let mut rest = n;
-    while rest >= 10 {
-        at -= 1;
-        part[at] = b'0' + (rest % 10) as u8;
-        rest /= 10;
-    }
-    part[0] = b'0' + rest as u8;
-}
-
-// Each of these writes at a place of `out`, and answers the place behind.
-
-fn put(out: &mut [u8], at: usize, text: &[u8]) -> usize
-    requires { at + length text.now ≤ length out.old }
-    ensures place { result ≡ at + length text.now }
-    ensures bytes { out.new ≡ written out.old at text.now }
-{
-    let end = at + text.len();
-    out[at..end].copy_from_slice(text);
-    end
-}
-
-fn put_decimal(out: &mut [u8], at: usize, n: u64) -> usize
-    requires { at + length (decimal n) ≤ length out.old }
-    ensures place { result ≡ at + length (decimal n) }
-    ensures bytes { out.new ≡ written out.old at (decimal n) }
-{
-    let end = at + digits(n);
-    spell(&mut out[at..end], n);
-    end
-}
-
-fn put_signed(out: &mut [u8], at: usize, n: i64) -> usize
-    requires { at + length (signed_decimal n) ≤ length out.old }
-    ensures place { result ≡ at + length (signed_decimal n) }
-    ensures bytes { out.new ≡ written out.old at (signed_decimal n) }
-{
-    if n < 0 {
-        let at = put(out, at, b"-");
-        return put_decimal(out, at, n.unsigned_abs());
-    }
-    put_decimal(out, at, n.unsigned_abs())
-}
-
-fn put_outcome(out: &mut [u8], at: usize, outcome: Outcome) -> usize
-    requires { at + length (outcome_bytes outcome) ≤ length out.old }
-    ensures place { result ≡ at + length (outcome_bytes outcome) }
-    ensures bytes { out.new ≡ written out.old at (outcome_bytes outcome) }
+fn put_outcome(pen: &mut Pen, outcome: Result<i64, Refusal>)
+    requires { HasRoom pen.old (outcome_bytes outcome) }
+    ensures { Wrote pen.old (outcome_bytes outcome) pen.new }
 {
     match outcome {
-        Outcome::Done(amount) => {
-            let at = put(out, at, b"ok ");
-            put_signed(out, at, amount)
+        Ok(amount) => {
+            pen.put(b"ok ");
+            pen.put_decimal(amount);
         }
-        Outcome::Refused { number, place } => {
-            let at = put(out, at, b"no ");
-            let at = put_decimal(out, at, u64::from(number));
-            let at = put(out, at, b" ");
-            put_decimal(out, at, u64::from(place))
+        Err(Refusal { number, place }) => {
+            pen.put(b"no ");
+            pen.put_decimal(number);
+            pen.put(b" ");
+            pen.put_decimal(place);
         }
     }
 }

@@ -4,8 +4,9 @@
 ghost use Rattle.std.specs.Prelude.{◌≡◌, IfOk};
 ghost use Rattle.counter.specs.Run.{run_bytes};
 
-use anyhow::anyhow;
+use anyhow::ensure;
 use counter::settle::{room, settle};
+use program::ending::exit_code;
 use std::alloc::{AllocError, Global};
 use std::env;
 use std::io::{Read, Write};
@@ -14,10 +15,10 @@ use std::process::ExitCode;
 const USAGE: &str = "wanted is no argument; usage: settle < SLIPS > LINES";
 
 // The lines of an input's slips.
-fn lines(heap: Global, input: &[u8]) -> Result<Vec<u8>, AllocError>
+fn lines(alloc: Global, input: &[u8]) -> Result<Vec<u8>, AllocError>
     ensures { IfOk result (λ v. v.items ≡ run_bytes input.now) }
 {
-    let mut out = vec![in heap; 0; room(input.len())]?;
+    let mut out = vec![in alloc; 0; room(input.len())]?;
     let count = settle(input, &mut out).unwrap();
     out.truncate(count);
     Ok(out)
@@ -25,9 +26,7 @@ fn lines(heap: Global, input: &[u8]) -> Result<Vec<u8>, AllocError>
 
 fn run(rt: &HostRuntime) -> anyhow::Result<()> {
     let words: Vec<String> = env::args(rt)?.collect(rt.alloc())?;
-    if words.len() > 1 {
-        return Err(anyhow!(USAGE));
-    }
+    ensure!(words.len() <= 1, USAGE);
     let mut input = Vec::new(rt.alloc());
     rt.stdin().read_to_end(&mut input)?;
     let written = lines(rt.alloc(), &input)?;
@@ -36,11 +35,5 @@ fn run(rt: &HostRuntime) -> anyhow::Result<()> {
 }
 
 fn main(rt: HostRuntime) -> anyhow::Result<ExitCode> {
-    match run(&rt) {
-        Ok(()) => Ok(ExitCode::SUCCESS),
-        Err(wrong) => {
-            eprintln!(rt; "settle: {wrong}")?;
-            Ok(ExitCode::FAILURE)
-        }
-    }
+    exit_code(&rt, "settle", run(&rt))
 }

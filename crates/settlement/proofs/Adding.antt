@@ -1,25 +1,22 @@
 -- Sums of figures, in all and by class.
-use Rattle.std.proofs.Common.{◌≡◌, ℕ, zero, suc, ◌+◌, ◌*◌, ◌<◌, ◌≤◌, Bool, true, cond, leb, List, [], ◌∷◌, ◌++◌, map, length, get_or, take, set, replicate, Some, sum_by, sum, Option, sym, refl, ap, ◌∙◌, subst, inl, inr, add-zero, mul-le-mul_right, arith, length-set, length-take, get_or-set_other, get_or-take, get_or-set_same}
+use Rattle.std.proofs.Common.{◌≡◌, ℕ, suc, ◌+◌, ◌*◌, ◌<◌, ◌≤◌, Bool, true, cond, List, [], ◌∷◌, ◌++◌, map, length, get_or, take, set, replicate, Some, sum_by, sum, Option, sym, refl, ap, ◌∙◌, subst, inl, inr, add-zero, arith, length-set, length-take, get_or-set_other, get_or-take, get_or-set_same}
 use Rattle.std.proofs.lemmas.List.FromFn.{fill_by_all, get_or-map-range_with_len, length-map-range_with_len}
-use Rattle.std.proofs.ByRecursion.{All-take, sum_by_le}
-use Rattle.std.proofs.lemmas.List.{take_more, take_more_set, take_all}
-use Rattle.std.proofs.lemmas.List.Sums.{sum_by-cons, sum_by_more, sum_by_push, sum_by-set, get_or-le-sum_by}
-use Rattle.std.proofs.lemmas.Bool.{and_parts, cases_eq, eq-eqb, ne_eqb, leb-true}
-use Rattle.std.specs.List.{range_with_len, AllByRecursion}
+use Rattle.std.proofs.lemmas.List.{take-replicate, get_or-replicate, take_more}
+use Rattle.std.proofs.lemmas.List.Folds.{sum_by-replicate}
+use Rattle.std.proofs.Math.Seq.{take-set-lt}
+use Rattle.std.proofs.lemmas.List.Sums.{sum_by-take-le, sum_by-cons, sum_by_more, sum_by_push, sum_by-set, get_or-le-sum_by}
+use Rattle.std.proofs.lemmas.Bool.Decides.{nat_tests}
+use Rattle.std.proofs.lemmas.Bool.{cases_eq, eq-eqb, ne_eqb}
+use Rattle.std.specs.List.{range_with_len}
 use Rattle.settlement.specs.Limits.{figures_within}
 use Rattle.tariff.specs.Meaning.{TariffMeaning, LawfulTariff}
 use Rattle.tariff.specs.Steps.{Step}
 use Rattle.tariff.specs.Lawful.{class_within}
 use Rattle.settlement.specs.Totals.{Figures, MonthTotals, of_class, in_class, day_in_class, totals_of, plus_day, numbered}
 
-figures_low : (xs : List ℕ) → figures_within xs ≡ true → AllByRecursion (λ x. x ≤ 2500) xs
-figures_low [] e = tt
-figures_low (x ∷ xs) e = let parts = and_parts (leb x 2500) (figures_within xs) e in (leb-true x 2500 parts.0, figures_low xs parts.1)
-
-pub figures_sum : (xs : List ℕ) → figures_within xs ≡ true → (i : ℕ) → sum (take i xs) ≤ i * 2500
-figures_sum xs e i =
-    let short : length (take i xs) ≤ i = simp length-take (omega arith) in
-    omega (arith, sum_by_le (λ x. x) 2500 (take i xs) (All-take (λ x. x ≤ 2500) i xs (figures_low xs e)), mul-le-mul_right 2500 short)
+pub figures_sum : (xs : List ℕ) → figures_within xs ≡ true → sum xs ≤ length xs * 2500
+figures_sum [] e = omega arith
+figures_sum (x ∷ xs) e = let others = figures_sum xs in simp sum_by-cons (grind (arith, nat_tests))
 
 in_class_push : (class_of : ℕ → Option ℕ) (class half_hour : ℕ) (xs : List ℕ) (x : ℕ) → in_class class_of class half_hour (xs ++ x ∷ []) ≡ in_class class_of class half_hour xs + cond (of_class (class_of (half_hour + length xs)) class) x 0
 in_class_push class_of class half_hour [] x = let at = ap (λ h. cond (of_class (class_of h) class) x 0) (add-zero half_hour) in omega arith
@@ -35,12 +32,6 @@ in_class_more class_of class xs i h =
     ap (in_class class_of class 0) (take_more xs i 0 h)
     ∙ in_class_push class_of class 0 (take i xs) (get_or xs i 0)
     ∙ ap (λ j. in_class class_of class 0 (take i xs) + cond (of_class (class_of j) class) (get_or xs i 0) 0) at
-
-take_set_in : (n : ℕ) (xs : List ℕ) (k y : ℕ) → take n (set xs k y) ≡ set (take n xs) k y
-take_set_in zero xs k y = refl
-take_set_in (suc n) [] k y = refl
-take_set_in (suc n) (x ∷ xs) zero y = refl
-take_set_in (suc n) (x ∷ xs) (suc k) y = ap (λ rest. x ∷ rest) (take_set_in n xs k y)
 
 -- Half-hour i of the figures xs, added to the sum of its class k, one of the n classes.
 module _ (class_of : ℕ → Option ℕ) (n : ℕ) (xs start sums : List ℕ) (i k : ℕ) (lt : i < length xs) (wide : n ≤ length sums) (is : class_of i ≡ Some k) (one_of_lem : k < n) where
@@ -67,7 +58,7 @@ module _ (class_of : ℕ → Option ℕ) (n : ℕ) (xs start sums : List ℕ) (i
   all_more so_far =
       let there : k < length (take n sums) = simp length-take (omega arith) in
       let same : get_or (take n sums) k 0 ≡ get_or sums k 0 = rw get_or-take in
-      let moved = ap sum (take_set_in n sums k (get_or sums k 0 + get_or xs i 0)) in
+      let moved = ap sum (take-set-lt n sums k (get_or sums k 0 + get_or xs i 0) one_of_lem) in
       let set_sum = sum_by-set (λ x. x) (take n sums) k (get_or sums k 0 + get_or xs i 0) 0 there in
       let more = sum_by_more (λ x. x) xs i 0 lt in
       omega arith
@@ -124,29 +115,8 @@ one_of_four m tables n law kind day rest half_hour k is =
 
 -- before the first day all sums are 0
 pub sum_zeros : (n k : ℕ) → sum (take n (replicate k 0)) ≡ 0
-sum_zeros zero k = refl
-sum_zeros (suc n) zero = refl
-sum_zeros (suc n) (suc k) = simp sum_by-cons (omega (arith, sum_zeros n k))
-
-get_or-zeros : (n k j : ℕ) → ◌≡◌ {A = ℕ} (get_or (take n (replicate k 0)) j 0) 0
-get_or-zeros zero k j = refl
-get_or-zeros (suc n) zero j = refl
-get_or-zeros (suc n) (suc k) zero = refl
-get_or-zeros (suc n) (suc k) (suc j) = get_or-zeros n k j
+sum_zeros n k = omega (arith, sum_by-take-le (λ x. x) (replicate k 0) n, sum_by-replicate (λ (x : ℕ). x) k 0)
 
 pub totals_none : (m : TariffMeaning) (n : ℕ) → m.classes ≡ n → n ≤ 4 → ◌≡◌ {A = MonthTotals} (record { used = 0; by_class = take n (replicate 4 0); surplus = 0 }) (totals_of m [])
 totals_none m n kind few =
-    same_month _ _ refl (fill_by_all (λ class. 0) (take n (replicate 4 0)) m.classes 0 (simp length-take (omega arith)) (λ k h. get_or-zeros n 4 k)) refl
-
--- Totals that were given, copied class by class.
-module _ (used by : List ℕ) (i all surplus : ℕ) (wide : length by ≡ 4) (few : length used ≤ 4) (same : take i by ≡ take i used) (sums : all ≡ sum (take i used)) where
-  pub copied_more : i < length used → (take (i + 1) (set by i (get_or used i 0)) ≡ take (i + 1) used) × (all + get_or used i 0 ≡ sum (take (i + 1) used))
-  copied_more lt =
-      let there : i < length by = omega arith in
-      (take_more_set by i (get_or used i 0) there ∙ ap (λ front. front ++ get_or used i 0 ∷ []) same ∙ sym (take_more used i 0 lt), omega (arith, sum_by_more (λ x. x) used i 0 lt))
-
-  pub copied_all : length used ≤ i → i ≤ length used → (take (length used) by ≡ used) × (all ≡ sum used)
-  copied_all le ge =
-      let here : i ≡ length used = omega arith in
-      let whole = take_all i used le in
-      (ap (λ n. take n by) (sym here) ∙ same ∙ whole, sums ∙ ap sum whole)
+    same_month _ _ refl (fill_by_all (λ class. 0) (take n (replicate 4 0)) m.classes 0 (simp length-take (omega arith)) (λ k h. rw (take-replicate {X = ℕ} n 4 0 few) (get_or-replicate {A = ℕ} n k 0 0 (omega arith)))) refl

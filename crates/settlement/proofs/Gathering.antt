@@ -1,6 +1,6 @@
 -- The totals of a month, gathered day by day.
-use Rattle.std.proofs.Common.{◌≡◌, ℕ, zero, suc, ◌+◌, ◌<◌, ◌≤◌, true, false, cond, List, [], ◌∷◌, ◌++◌, length, get_or, take, drop, replicate, Some, None, sum, Option, sym, refl, ap, ◌∙◌, le_of_suc-le-suc, not-suc-le-zero, arith}
-use Rattle.std.proofs.lemmas.List.{take_more, take_all, at_drop_more, take-append-drop, length_push}
+use Rattle.std.proofs.Common.{◌≡◌, ℕ, ◌+◌, ◌<◌, ◌≤◌, true, false, cond, List, [], ◌∷◌, ◌++◌, length, get_or, take, drop, replicate, Some, None, sum, Option, sym, refl, ap, ◌∙◌, arith}
+use Rattle.std.proofs.lemmas.List.{get_or-map, take_more, take_all, at_drop_more, take-append-drop, length_push}
 use Rattle.std.specs.Option.{option_map}
 use Rattle.tariff.specs.Meaning.{TariffMeaning}
 use Rattle.settlement.specs.Totals.{Figures, figures_of, all_figures, MonthTotals, day_in_class, totals_of, plus_day, numbered, with_first, all_read, is_month, gathered}
@@ -21,9 +21,7 @@ all_read_missing (Some x ∷ days) rest = ap (with_first x) (all_read_missing da
 
 -- what is read of the code's days at i is what their figures have there
 pub figures_at : (days : List (Option Reading)) (i : ℕ) (o : Option Reading) → i < length days → o ≡ get_or days i o → get_or (all_figures days) i None ≡ option_map figures_of o
-figures_at [] i o lt read = absurd (not-suc-le-zero lt)
-figures_at (x ∷ days) zero o lt read = ap (option_map figures_of) (sym read)
-figures_at (x ∷ days) (suc i) o lt read = figures_at days i o (le_of_suc-le-suc lt) read
+figures_at days i o lt read = get_or-map (option_map figures_of) days i o None lt ∙ ap (option_map figures_of) (sym read)
 
 -- the totals of the first i days, all of them read
 pub record SoFar (m : TariffMeaning) (first : ℕ) (days : List (Option Figures)) (i : ℕ) (totals : MonthTotals) : Type 0 where

@@ -1,56 +1,51 @@
--- The kWh of each class, found class by class.
-use Rattle.std.proofs.Common.{◌≡◌, ℕ, ◌+◌, ◌-◌, ◌*◌, ◌/◌, ◌<◌, ◌≤◌, List, [], ◌∷◌, ◌++◌, length, get_or, take, drop, set, sum, sym, refl, ap, ◌∙◌, append_assoc, arith, length-drop, length-set}
-use Rattle.std.proofs.lemmas.List.{take_more_set, at_drop_more}
-use Rattle.std.proofs.lemmas.List.Sums.{sum_by-cons, sum_by-drop_more}
+-- The kWh of each class: each but the last drops its fraction, and the last takes what remains.
+use Rattle.std.proofs.Common.{◌≡◌, ℕ, zero, suc, ◌+◌, ◌-◌, ◌*◌, ◌/◌, ◌≤◌, List, [], ◌∷◌, map, length, take, set, sum, sym, ap, ◌∙◌, arith, length-take}
+use Rattle.std.specs.Array.{IsMapOf}
+use Rattle.std.specs.Fn.{Called}
+use denote.Param.Members.{Mut}
+use Rattle.std.proofs.lemmas.Grind.{same_number_lists}
+use Rattle.std.proofs.lemmas.List.{get_or-map, length-map, take-map, take-take}
+use Rattle.std.proofs.lemmas.List.Sums.{sum_by-cons, sum_by-take-le}
+use Rattle.std.proofs.Math.Seq.{take-set-lt}
 use Rattle.settlement.specs.Usage.{kwh_by_class}
 
-not_last : (left x : ℕ) (rest : List ℕ) → 1 ≤ length rest → kwh_by_class left (x ∷ rest) ≡ x / 100 ∷ kwh_by_class (left - x / 100) rest
-not_last left x [] h = absurd (omega arith)
-not_last left x (y ∷ rest) h = refl
+-- the whole kWh of each class
+abbrev pub whole : List ℕ → List ℕ
+whole xs = map (λ x. x / 100) xs
 
-the_last : (left x : ℕ) (rest : List ℕ) → length rest ≡ 0 → kwh_by_class left (x ∷ rest) ≡ left ∷ []
-the_last left x [] h = refl
-the_last left x (y ∷ rest) h = absurd (omega arith)
+-- what an array's `map` made, where each call gives the whole kWh
+pub whole_at : {F : Type 0} (g : Mut F (ℕ × Unit {0}) ℕ) (f : F) (xs kwh : List ℕ) → length xs ≡ 4 → IsMapOf g f xs kwh 4 → ((p : F) (x r : ℕ) (q : F) → Called g p (x, tt) r q → r ≡ x / 100) → kwh ≡ whole xs
+whole_at g f xs kwh four made called =
+    same_number_lists kwh (whole xs) (made.long ∙ sym four ∙ sym (length-map xs (λ x. x / 100))) (λ i h.
+    let at = made.at i 0 0 (omega (arith, made.long)) in
+    called at.0 _ _ at.1 at.2 ∙ sym (get_or-map (λ x. x / 100) xs i 0 0 (omega (arith, made.long))))
 
--- The kWh of the classes before i are found, and `left` kWh remain for those from i on: enough for what they drop to.
-abbrev pub Found : ℕ → List ℕ → ℕ → ℕ → List ℕ → Type 0
-Found usage xs i left kwh =
-    (length kwh ≡ 4)
-    × (take i kwh ++ kwh_by_class left (drop i xs) ≡ kwh_by_class usage xs)
-    × (sum (drop i xs) ≤ 100 * left + 99)
+whole_low : (xs : List ℕ) → 100 * sum (whole xs) ≤ sum xs
+whole_low [] = omega arith
+whole_low (x ∷ xs) = simp sum_by-cons (omega (arith, whole_low xs))
 
--- class i, whose hundredths are x
-module _ (usage : ℕ) (xs kwh : List ℕ) (i left x : ℕ) (four : i < 4) (is : get_or xs i 0 ≡ x) (within : i < length xs) (so_far : Found usage xs i left kwh) where
-  abbrev rest : List ℕ
-  rest = drop (i + 1) xs
+rest_last : (left : ℕ) (xs : List ℕ) (last : ℕ) → suc last ≡ length xs → set (whole xs) last (left - sum (take last (whole xs))) ≡ kwh_by_class left xs
+rest_last left [] last e = absurd (omega arith)
+rest_last left (x ∷ []) zero e = ap (λ n. n ∷ []) (omega arith)
+rest_last left (x ∷ []) (suc last) e = absurd (omega arith)
+rest_last left (x ∷ (y ∷ rest)) zero e = absurd (omega arith)
+rest_last left (x ∷ (y ∷ rest)) (suc last) e =
+    let behind : left - sum (x / 100 ∷ take last (whole (y ∷ rest))) ≡ left - x / 100 - sum (take last (whole (y ∷ rest))) = simp sum_by-cons (omega arith) in
+    ap (λ n. x / 100 ∷ set (whole (y ∷ rest)) last n) behind ∙ ap (λ xs. x / 100 ∷ xs) (rest_last (left - x / 100) (y ∷ rest) last (omega arith))
 
-  here : kwh_by_class left (drop i xs) ≡ kwh_by_class left (x ∷ rest)
-  here = at_drop_more (kwh_by_class left) xs i 0 within ∙ ap (λ y. kwh_by_class left (y ∷ rest)) is
+-- of the first n classes of xs, `last` is the last one
+module _ (left n last : ℕ) (xs : List ℕ) (is : n ≡ last + 1) (wide : n ≤ length xs) where
+  -- the others have no more than there is
+  pub others_low : sum (take n xs) ≤ 100 * left + 99 → sum (take last (whole xs)) ≤ left
+  others_low h =
+      let some : sum (take last (whole xs)) ≤ sum (whole (take n xs)) =
+      rw (← take-take last n (whole xs) (omega arith), take-map (λ x. x / 100) n xs) (sum_by-take-le (λ x. x) (whole (take n xs)) last) in
+      omega (arith, whole_low (take n xs))
 
-  pub enough : x / 100 ≤ left
-  enough = omega (arith, sum_by-drop_more (λ n. n) xs i 0 within, so_far.2)
-
-  wide : i < length kwh
-  wide = omega (arith, so_far.0)
-
-  pub found_more : i + 1 < length xs → Found usage xs (i + 1) (left - x / 100) (set kwh i (x / 100))
-  found_more lt =
-      let more : 1 ≤ length rest = simp length-drop (omega arith) in
-      let fits = enough in (
-        simp length-set so_far.0,
-        ap (λ front. front ++ kwh_by_class (left - x / 100) rest) (take_more_set kwh i (x / 100) wide)
-            ∙ append_assoc (take i kwh) (x / 100 ∷ []) (kwh_by_class (left - x / 100) rest)
-            ∙ sym (ap (λ back. take i kwh ++ back) (here ∙ not_last left x rest more))
-            ∙ so_far.1,
-        omega (arith, sum_by-drop_more (λ n. n) xs i 0 within, so_far.2),
-      )
-
-  pub found_all : i + 1 ≡ length xs → take (i + 1) (set kwh i left) ≡ kwh_by_class usage xs
-  found_all whole =
-      let none : length rest ≡ 0 = simp length-drop (omega arith) in
-      take_more_set kwh i left wide
-      ∙ sym (ap (λ back. take i kwh ++ back) (here ∙ the_last left x rest none))
-      ∙ so_far.1
+  pub last_takes_rest : take n (set (whole xs) last (left - sum (take last (whole xs)))) ≡ kwh_by_class left (take n xs)
+  last_takes_rest =
+      let many : suc last ≡ length (take n xs) = simp length-take (omega arith) in
+      rw (take-set-lt n (whole xs) last _ (omega arith), ← take-take last n (whole xs) (omega arith), take-map (λ x. x / 100) n xs) (rest_last left (take n xs) last many)
 
 -- they add up to the usage
 pub kwh_sum : (left : ℕ) (xs : List ℕ) → 1 ≤ length xs → sum xs ≤ 100 * left + 99 → sum (kwh_by_class left xs) ≡ left

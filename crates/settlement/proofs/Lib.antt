@@ -5,5 +5,5 @@ pub mod Fitting
 pub mod Gathered
 pub mod Gathering
 pub mod Kwh
-pub mod Loops
 pub mod Months
+pub mod Shares

@@ -1,12 +1,21 @@
 -- Deposit boxes: their letters, limits and fees.
-use Rattle.std.specs.Prelude.{ℕ, ◌/◌, cond, Some, None, Option, ◌==◌}
+use Rattle.std.specs.Prelude.{◌≡◌, ℕ, ◌/◌, cond, Some, None, Option, Result, MatchResult, ◌==◌}
 use Rattle.settlement.specs.declared.deposit_box.DepositBox.{DepositBox}
 use Rattle.settlement.specs.declared.deposit_box.DepositBox.TheVariants.{S, M, L, T, R}
+use Rattle.settlement.specs.declared.fault.MonthFault.{MonthFault}
+use Rattle.settlement.specs.declared.fault.MonthFault.TheVariants.{UnknownBox}
 
 -- the box of a letter, by its code
 abbrev pub box_lettered : ℕ → Option DepositBox
 box_lettered letter =
     cond (letter == 83) (Some S) (cond (letter == 77) (Some M) (cond (letter == 76) (Some L) (cond (letter == 84) (Some T) (cond (letter == 82) (Some R) None))))
+
+-- the box of a letter, where it has one
+abbrev pub BoxLettered : ℕ → Result DepositBox MonthFault → Type 0
+BoxLettered letter r =
+    MatchResult r
+    (λ b. box_lettered letter ≡ Some b)
+    (λ f. (f ≡ UnknownBox) × (box_lettered letter ≡ None))
 
 -- how many kWh a box holds
 abbrev pub limit : DepositBox → Option ℕ

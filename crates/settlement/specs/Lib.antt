@@ -2,8 +2,10 @@ pub mod Boxes
 pub mod Charges
 pub mod Credited
 pub mod Faults
+pub mod Handed
 pub mod Held
 pub mod Limits
+pub mod Prices
 pub mod Readings
 pub mod Rows
 pub mod Settlements

@@ -1,5 +1,5 @@
-ghost use Rattle.std.specs.Prelude.{◌≡◌, Some, None, Ok, Err};
-ghost use Rattle.settlement.specs.Boxes.{box_lettered, limit, fee};
+ghost use Rattle.std.specs.Prelude.{◌≡◌};
+ghost use Rattle.settlement.specs.Boxes.{BoxLettered, limit, fee};
 
 use crate::fault::MonthFault;
 
@@ -13,10 +13,12 @@ pub enum DepositBox {
     R,
 }
 
-impl DepositBox {
-    pub fn from_letter(letter: char) -> Result<DepositBox, MonthFault>
-        ensures { elim result [ Ok b ↦ box_lettered letter ≡ Some b | Err f ↦ (f ≡ MonthFault.UnknownBox) × (box_lettered letter ≡ None) ] }
-    {
+impl TryFrom<char> for DepositBox {
+    type Error = MonthFault;
+
+    ghost try_from_gives = { BoxLettered };
+
+    fn try_from(letter: char) -> Result<DepositBox, MonthFault> {
         match letter {
             'S' => Ok(DepositBox::S),
             'M' => Ok(DepositBox::M),
@@ -26,7 +28,9 @@ impl DepositBox {
             _ => Err(MonthFault::UnknownBox),
         }
     }
+}
 
+impl DepositBox {
     /// How many kWh the box holds; none where there is no limit.
     pub fn capacity(self) -> Option<u32>
         ensures { result ≡ limit self }

@@ -1,25 +1,23 @@
-ghost use Rattle.std.specs.Prelude.{◌≡◌, true, false, Ok, Err};
+mod methods;
+
+ghost use Rattle.std.specs.Prelude.{◌≡◌, true};
 ghost use Rattle.settlement.specs.Limits.{prices_within};
 
-use crate::fault::MonthFault;
+/// A month's prices in sen per kWh, as handed in: the fuel price, the levy and the price at which surplus is bought.
+#[derive(Clone, Copy)]
+pub struct MonthPrices {
+    pub fuel: i16,
+    pub levy: u16,
+    pub buy: u16,
+}
 
-/// A month's prices in sen per kWh: the fuel price −10,000 to 10,000, the levy and the price at which surplus is bought
-/// 0 to 10,000.
+/// A month's prices that keep their limits: the fuel price −10,000 to 10,000, the levy and the price at which surplus is
+/// bought 0 to 10,000.
+// A type beside `MonthPrices`: an account is handed prices that nothing has checked yet, and says so when it refuses them.
 #[derive(Clone, Copy)]
 pub struct Prices {
     pub fuel: i16,
     pub levy: u16,
     pub buy: u16,
     ghost limits: { prices_within fuel levy buy ≡ true },
-}
-
-impl Prices {
-    pub fn new(fuel: i16, levy: u16, buy: u16) -> Result<Prices, MonthFault>
-        ensures { elim result [ Ok p ↦ (p.fuel ≡ fuel) × (p.levy ≡ levy) × (p.buy ≡ buy) × (prices_within fuel levy buy ≡ true) | Err f ↦ (f ≡ MonthFault.Price) × (prices_within fuel levy buy ≡ false) ] }
-    {
-        if fuel < -10_000 || fuel > 10_000 || levy > 10_000 || buy > 10_000 {
-            return Err(MonthFault::Price);
-        }
-        Ok(Prices { fuel, levy, buy })
-    }
 }

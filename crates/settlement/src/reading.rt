@@ -3,8 +3,18 @@ mod methods;
 ghost use Rattle.std.specs.Prelude.{◌≡◌, true};
 ghost use Rattle.settlement.specs.Limits.{figures_within};
 
+/// A day's figures as handed in: its rest mark, and the energy used and the surplus of its half-hours, in a slice or an
+/// array each.
+#[derive(Clone, Copy)]
+pub struct DayFigures<F> {
+    pub rest: bool,
+    pub used: F,
+    pub surplus: F,
+}
+
 /// The reading of a day: its rest mark, and for each half-hour the energy used and the surplus, in hundredths of a kWh,
 /// each 0 to 2,500.
+// A type beside `DayFigures`: figures are handed in that nothing has checked yet, and are refused with their day.
 #[derive(Clone, Copy)]
 pub struct Reading {
     pub rest: bool,

@@ -11,6 +11,7 @@ pub struct Totals {
     pub days: u8,
     pub classes: u8,
     pub used: u32,
+    // As long as the most classes that a tariff has: totals are `Copy` and take no allocator.
     pub by_class: [u32; 4],
     pub surplus: u32,
     ghost month: { days ≤ 35 },

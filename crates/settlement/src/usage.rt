@@ -14,19 +14,13 @@ pub(crate) fn to_kwh(hundredths: u32) -> u32
     round_hundredths(u64::from(hundredths)) as u32
 }
 
-// The kWh of each class, which add up to the month's usage.
+// The kWh of each class, which add up to the month's usage, in as many places as a tariff has classes at most.
 pub(crate) fn by_class(totals: &Totals, usage: u32) -> [u32; 4]
     requires { totals.now.used ≤ 100 * usage + 99 }
     ensures { take totals.now.classes result ≡ kwh_by_class usage (take totals.now.classes totals.now.by_class) }
 {
-    let mut kwh = [0; 4];
-    let mut left = usage;
-    let last = totals.classes - 1;
-    for class in 0..last {
-        let whole = totals.by_class[class as usize] / 100;
-        kwh[class as usize] = whole;
-        left -= whole;
-    }
-    kwh[last as usize] = left;
+    let last = usize::from(totals.classes) - 1;
+    let mut kwh = totals.by_class.map(|hundredths| hundredths / 100);
+    kwh[last] = usage - kwh[..last].iter().sum::<u32>();
     kwh
 }

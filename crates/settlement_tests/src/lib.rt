@@ -7,8 +7,9 @@ pub mod two_rates;
 mod tests {
     use crate::two_rates::TwoRates;
     use settlement::deposit_box::DepositBox;
-    use settlement::prices::Prices;
-    use settlement::reading::Reading;
+    use settlement::fault::MonthFault;
+    use settlement::prices::{MonthPrices, Prices};
+    use settlement::reading::{DayFigures, Reading, ReadingFault};
     use settlement::settlement::{Settlement, settle};
     use settlement::totals::{Totals, gather};
     use std::test::Fail;
@@ -17,17 +18,29 @@ mod tests {
     use tariff::standard::Standard;
     use tariff::steps::StepTable;
 
+    fn prices(fuel: i16, levy: u16, buy: u16) -> Result<Prices, MonthFault> {
+        Prices::try_from(MonthPrices { fuel, levy, buy })
+    }
+
+    fn reading(rest: bool, used: &[u16], surplus: &[u16]) -> Result<Reading, ReadingFault> {
+        Reading::try_from(DayFigures {
+            rest,
+            used,
+            surplus,
+        })
+    }
+
     // A month of Standard at 10 kVA.
     fn standard(letter: char, prices: Prices, used: u32, surplus: u32) -> Option<Settlement> {
         let supply = Standard::new(10).ok()?;
-        let chosen = DepositBox::from_letter(letter).ok()?;
+        let chosen = DepositBox::try_from(letter).ok()?;
         settle(&supply, chosen, prices, &Totals::new(&[used], surplus)?)
     }
 
     // A month of Night at 6 kVA, with box T and no prices.
     fn night(by_day: u32, by_night: u32, surplus: u32) -> Option<Settlement> {
         let supply = Night::new(6).ok()?;
-        let free = Prices::new(0, 0, 0).ok()?;
+        let free = prices(0, 0, 0).ok()?;
         settle(
             &supply,
             DepositBox::T,
@@ -37,15 +50,15 @@ mod tests {
     }
 
     fn net(month: Option<Settlement>) -> Option<i64> {
-        Some(month?.net)
+        month.map(|month| month.net)
     }
 
     fn credit(month: Option<Settlement>) -> Option<i64> {
-        Some(month?.credit)
+        month.map(|month| month.credit)
     }
 
     fn kwh(month: Option<Settlement>) -> Option<[u32; 4]> {
-        Some(month?.kwh)
+        month.map(|month| month.kwh)
     }
 
     // The shares of the first four rows.
@@ -62,26 +75,26 @@ mod tests {
     // Used hundredths by class of days on Seasonal.
     fn by_class(first: u16, days: &[Option<Reading>]) -> Option<[u32; 4]> {
         let supply = Seasonal::new(10).ok()?;
-        Some(gather(&supply, first, days)?.by_class)
+        gather(&supply, first, days).map(|totals| totals.by_class)
     }
 
     // 7 kWh used from 13:00 to 13:30.
     fn noon(rest: bool) -> Option<Reading> {
         let mut used = [0; 48];
         used[26] = 700;
-        Reading::new(rest, &used, &[0; 48]).ok()
+        reading(rest, &used, &[0; 48]).ok()
     }
 
     // A month of Night at 1 kVA, box S, at the lowest fuel price.
     fn cheap_night(used: &[u32]) -> Option<Settlement> {
         let supply = Night::new(1).ok()?;
-        let cheap = Prices::new(-10_000, 0, 0).ok()?;
+        let cheap = prices(-10_000, 0, 0).ok()?;
         settle(&supply, DepositBox::S, cheap, &Totals::new(used, 0)?)
     }
 
     #[test]
     fn use_rounds_half_up_and_none_halves_the_basic_charge(rt: HostRuntime) -> Result<(), Fail> {
-        let free = Prices::new(0, 0, 0)?;
+        let free = prices(0, 0, 0)?;
         // 2,860 and 800 yen, without and with one kWh of 19.88; without any hundredth 1,430 and 800
         assert_eq!(rt; net(standard('S', free, 49, 0)), Some(3_660));
         assert_eq!(rt; net(standard('S', free, 50, 0)), Some(3_679));
@@ -91,7 +104,7 @@ mod tests {
 
     #[test]
     fn the_fee_goes_by_surplus_in_kwh(rt: HostRuntime) -> Result<(), Fail> {
-        let free = Prices::new(0, 0, 0)?;
+        let free = prices(0, 0, 0)?;
         assert_eq!(rt; net(standard('T', free, 100, 49)), Some(5_369));
         assert_eq!(rt; net(standard('T', free, 100, 50)), Some(7_840));
         assert_eq!(rt; net(standard('R', free, 500, 0)), Some(4_209));
@@ -100,10 +113,10 @@ mod tests {
 
     #[test]
     fn deposited_is_the_smallest_of_surplus_use_and_limit(rt: HostRuntime) -> Result<(), Fail> {
-        let bought = Prices::new(0, 0, 800)?;
+        let bought = prices(0, 0, 800)?;
         // box S holds 50 of 100 kWh; box L takes all, but only 100 kWh were used; box M holds 150 of 200
         assert_eq!(rt;
-            net(standard('S', Prices::new(0, 345, 800)?, 40_000, 10_000)),
+            net(standard('S', prices(0, 345, 800)?, 40_000, 10_000)),
             Some(13_317)
         );
         assert_eq!(rt; net(standard('L', bought, 10_000, 30_000)), Some(6_260));
@@ -114,7 +127,7 @@ mod tests {
     #[test]
     fn a_negative_credit_is_cut_towards_zero(rt: HostRuntime) -> Result<(), Fail> {
         // three kWh at 19.88 less 20.38 yen: −1.50 yen
-        let month = standard('S', Prices::new(-2_038, 0, 0)?, 300, 300);
+        let month = standard('S', prices(-2_038, 0, 0)?, 300, 300);
         assert_eq!(rt; credit(month), Some(-1));
         assert_eq!(rt; net(month), Some(3_659));
         Ok(())
@@ -141,7 +154,7 @@ mod tests {
             morning: StepTable::new(&[(Some(10), 100), (None, 300)])?,
             afternoon: StepTable::new(&[(Some(5), 300), (None, 500)])?,
         };
-        let free = Prices::new(0, 0, 0).ok()?;
+        let free = prices(0, 0, 0).ok()?;
         settle(
             &supply,
             DepositBox::L,
@@ -197,15 +210,15 @@ mod tests {
 
     #[test]
     fn readings_boxes_and_prices_have_limits(rt: HostRuntime) {
-        assert!(rt; Reading::new(false, &[2_500; 48], &[2_500; 48]).is_ok());
-        assert!(rt; Reading::new(false, &[2_501; 48], &[0; 48]).is_err());
-        assert!(rt; Reading::new(false, &[0; 47], &[0; 48]).is_err());
-        assert!(rt; Reading::new(false, &[0; 48], &[0; 49]).is_err());
-        assert!(rt; DepositBox::from_letter('X').is_err());
-        assert!(rt; Prices::new(-10_000, 10_000, 10_000).is_ok());
-        assert!(rt; Prices::new(10_001, 0, 0).is_err());
-        assert!(rt; Prices::new(-10_001, 0, 0).is_err());
-        assert!(rt; Prices::new(0, 10_001, 0).is_err());
-        assert!(rt; Prices::new(0, 0, 10_001).is_err());
+        assert!(rt; reading(false, &[2_500; 48], &[2_500; 48]).is_ok());
+        assert!(rt; reading(false, &[2_501; 48], &[0; 48]).is_err());
+        assert!(rt; reading(false, &[0; 47], &[0; 48]).is_err());
+        assert!(rt; reading(false, &[0; 48], &[0; 49]).is_err());
+        assert!(rt; DepositBox::try_from('X').is_err());
+        assert!(rt; prices(-10_000, 10_000, 10_000).is_ok());
+        assert!(rt; prices(10_001, 0, 0).is_err());
+        assert!(rt; prices(-10_001, 0, 0).is_err());
+        assert!(rt; prices(0, 10_001, 0).is_err());
+        assert!(rt; prices(0, 0, 10_001).is_err());
     }
 }

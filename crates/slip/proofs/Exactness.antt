@@ -1,10 +1,11 @@
 -- Reading and the format are each other's inverse.
 use Rattle.std.proofs.Common.{◌≡◌, ℕ, ◌+◌, ◌-◌, ◌*◌, ◌%◌, ◌≤◌, Bool, true, false, cond, ◌&&◌, eqb, ltb, leb, List, [], ◌∷◌, ◌++◌, map, length, get_or, replicate, ℤ, pos, negsuc, Ok, Err, Result, sym, refl, ap, ◌∙◌, subst, append_assoc, arith}
-use Rattle.std.specs.List.{AllByRecursion}
+use Rattle.std.specs.List.{All, AllByRecursion}
 use Rattle.std.proofs.lemmas.Nat.{div-add-mod'}
 use Rattle.std.proofs.lemmas.List.{length-map}
+use Rattle.std.proofs.lemmas.List.Elements.{All-from_recursion, recursion_from_All}
 use Rattle.std.proofs.lemmas.Bool.{and_from, le-leb, eqb-true, eq-eqb, and_parts, leb-true, ltb-true, ltb-false, lt-ltb, le-ltb, cond-true, cond-false}
-use Rattle.settlement.specs.Settling.{MonthPrices}
+use Rattle.settlement.specs.declared.prices.MonthPrices.{MonthPrices}
 use Rattle.settlement.specs.Totals.{Figures}
 use Rattle.slip.specs.Exact.{One, Two, SignedTwo, FortyEight, OpeningFits, EntryFits, PricesFit, Fits, Exact}
 use Rattle.slip.specs.Format.{Slip, Opening, opening, post, correct, strike, close, two_bytes, map_byte, map_bytes, standing_bytes, packed, entry_bytes, opening_bytes, complement, slip_bytes}
@@ -30,7 +31,7 @@ figures_said place bs all =
     let own : map_bytes 6 ns ≡ maps = ap (λ n. map_bytes n ns) (sym six.1) ∙ map_of_bits maps ns six.2 said.1 in
     let whole : length ns ≡ 48 = sym (length-map ns stands) ∙ ap length said.1 ∙ bits_count maps ∙ ap (λ n. 8 * n) six.1 in (
       six.0 ∙ ap (λ l. l ++ more) (sym own) ∙ ap (λ l. map_bytes 6 ns ++ l) said.0 ∙ sym (append_assoc (map_bytes 6 ns) (standing_bytes ns) rest),
-      (whole, said.2),
+      (whole, All-from_recursion Two ns said.2),
       said.3,
     )))
 
@@ -181,7 +182,7 @@ opened_said bs all =
       record { tariff = tariff; capacity = capacity; percent = percent; letter = letter; first = first; lengths = lengths },
       refl,
       t.0 ∙ ap (λ l. tariff ∷ l) (c.0 ∙ ap (λ l. capacity ∷ l) (p.0 ∙ ap (λ l. percent ∷ l) (l.0 ∙ ap (λ l. letter ∷ l) (f.0 ∙ ap (λ l. two_bytes first ++ l) (m.0 ∙ ap (λ l. count ∷ l) n.0 ∙ ap (λ c. c ∷ (lengths ++ rest)) (sym n.1)))))),
-      record { tariff = t.1; capacity = c.1; percent = p.1; letter = l.1; first = f.1; some_month = omega (arith, m.1, n.1); few_months = omega (arith, m.2, n.1); lengths = n.2 },
+      record { tariff = t.1; capacity = c.1; percent = p.1; letter = l.1; first = f.1; some_month = omega (arith, m.1, n.1); few_months = omega (arith, m.2, n.1); lengths = All-from_recursion One lengths n.2 },
     ))))))))
 
 -- slips
@@ -230,8 +231,8 @@ said_is : (P : Slip → List ℕ → Type 0) (r : Read Slip) (s : Slip) (rest : 
 said_is P (Ok (a, place, more)) s rest said e = subst (λ x. P x.0 x.1) (ap (the_ok (s, rest)) e) said
 said_is P (Err fault) s rest said e = absurd (let z : ◌≡◌ {A = ℕ} 0 1 = cc in omega arith)
 
-pub exact : (bs : List ℕ) → Bytes bs → Exact bs
+pub exact : (bs : List ℕ) → All One bs → Exact bs
 exact bs all = record {
   reads = λ s rest fits e. ap reads_as e ∙ ap unplaced (slip_reads s rest fits).1;
-  is_read = λ s rest e. said_is (Slipped bs) (read bs) s rest (slip_said bs all) e;
+  is_read = λ s rest e. said_is (Slipped bs) (read bs) s rest (slip_said bs (recursion_from_All One bs all)) e;
 }

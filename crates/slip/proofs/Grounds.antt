@@ -1,20 +1,16 @@
 -- How long slips are, and the grounds against writing them.
-use Rattle.std.proofs.Common.{◌≡◌, ℕ, ◌+◌, ◌<◌, ◌≤◌, Bool, true, false, cond, ◌&&◌, eqb, leb, List, [], ◌∷◌, ◌++◌, length, ℤ, pos, negsuc, Some, None, sym, refl, ap, ◌∙◌, arith, length-append, w16, SFits, of_z}
+use Rattle.std.proofs.Common.{◌≡◌, ℕ, ◌+◌, ◌<◌, ◌≤◌, Bool, true, false, cond, ◌&&◌, eqb, leb, List, [], ◌∷◌, ◌++◌, length, ℤ, pos, negsuc, Some, None, sym, refl, ap, ◌∙◌, arith, length-append, w16, of_z}
 use mir.Val.{bool_byte}
 use Rattle.std.proofs.lemmas.Bool.{le-leb, lt-leb, eq-eqb, and_from}
 use Rattle.settlement.specs.Totals.{Figures}
-use Rattle.slip.specs.Exact.{SignedTwo}
+use Rattle.settlement.specs.declared.prices.MonthPrices.{MonthPrices}
 use Rattle.slip.specs.Format.{Slip, close, slip_bytes, map_byte, map_bytes, standing_bytes, packed, entry_bytes, complement}
-use Rattle.slip.specs.Writing.{months_right, figures_right, writing_ground, priced}
+use Rattle.slip.specs.Writing.{months_right, figures_right, writing_ground}
 use Rattle.slip.specs.declared.fault.WritingFault.TheVariants as writing
 
 complement_is : (z : ℤ) → complement z ≡ of_z w16 z
 complement_is (pos n) = refl
 complement_is (negsuc n) = omega arith
-
-pub signed_fits : (z : ℤ) → SFits w16 z → SignedTwo z
-signed_fits (pos n) fits = fits.sfits
-signed_fits (negsuc n) fits = fits.sfits
 
 pub mark_is : (b : Bool) → bool_byte b ≡ cond b 1 0
 mark_is true = refl
@@ -44,6 +40,6 @@ pub buffer_ground : (s : Slip) (room : ℕ) → months_right s ≡ true → figu
 buffer_ground s room m f h = simp (m, f, lt-leb (length (slip_bytes s)) room h)
 
 -- a closing's bytes, over its fuel price in two's complement
-pub closing_bytes : (fuel : ℤ) (x levy buy : ℕ) → x ≡ of_z w16 fuel
-    → slip_bytes (close (priced fuel levy buy)) ≡ 77 ∷ (map_byte 128 (x ∷ levy ∷ buy ∷ []) ∷ standing_bytes (x ∷ levy ∷ buy ∷ []))
-closing_bytes fuel x levy buy e = ap (λ x. 77 ∷ (map_byte 128 (x ∷ levy ∷ buy ∷ []) ∷ standing_bytes (x ∷ levy ∷ buy ∷ []))) (complement_is fuel ∙ sym e)
+pub closing_bytes : (p : MonthPrices) (x : ℕ) → x ≡ of_z w16 p.fuel
+    → slip_bytes (close p) ≡ 77 ∷ (map_byte 128 (x ∷ p.levy ∷ p.buy ∷ []) ∷ standing_bytes (x ∷ p.levy ∷ p.buy ∷ []))
+closing_bytes p x e = ap (λ x. 77 ∷ (map_byte 128 (x ∷ p.levy ∷ p.buy ∷ []) ∷ standing_bytes (x ∷ p.levy ∷ p.buy ∷ []))) (complement_is p.fuel ∙ sym e)

@@ -6,3 +6,4 @@ pub mod Standing
 pub mod Grounds
 pub mod ReadsBack
 pub mod WritingExamples
+pub mod Pens

@@ -32,9 +32,6 @@ on_faults r next e = ap (λ r. on r next) e
 abbrev pub Bytes : List ℕ → Type 0
 Bytes bs = AllByRecursion One bs
 
-pub byte_reads : (place b : ℕ) (rest : List ℕ) → byte place (b ∷ rest) ≡ Ok (b, place + 1, rest)
-byte_reads place b rest = refl
-
 pub byte_said : (place : ℕ) (bs : List ℕ) → Bytes bs → Said (λ b rest. (bs ≡ b ∷ rest) × One b × Bytes rest) (byte place bs)
 byte_said place [] all = tt
 byte_said place (b ∷ bs) all = (refl, all.0, all.1)

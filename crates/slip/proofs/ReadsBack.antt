@@ -1,7 +1,7 @@
 -- What is written reads back as the same slip.
 use Rattle.std.proofs.Common.{◌≡◌, ℕ, ◌<◌, List, [], length, get_or, take, drop, IfOk, Ok, Err, Result, sym, refl, ap, ◌∙◌, subst, append-nil}
-use Rattle.std.specs.List.{AllByRecursion}
-use Rattle.std.proofs.ByRecursion.{All-from_get_or, All-take}
+use Rattle.std.specs.List.{All}
+use Rattle.std.proofs.lemmas.List.Elements.{All-from_get_or, All-take}
 use Rattle.std.proofs.lemmas.List.{take_at}
 use Rattle.slip.specs.Exact.{One, Fits}
 use Rattle.slip.specs.Format.{Slip, slip_bytes}
@@ -13,18 +13,6 @@ use Rattle.slip.proofs.Exactness.{exact}
 pub back : (s : Slip) (before after : List ℕ) (r : Result ℕ WritingFault) → ((i : ℕ) → i < length after → One (get_or after i 0)) → Written s before after r → IfOk r (λ _. Fits s) → ReadsBack s r
 back s before after (Ok n) bytes written fits =
     let front : take (length (slip_bytes s)) after ≡ slip_bytes s = ap (take (length (slip_bytes s))) written.2 ∙ take_at (slip_bytes s) (drop n before) _ refl in
-    let all : AllByRecursion One (slip_bytes s) = subst (AllByRecursion One) front (All-take One (length (slip_bytes s)) after (All-from_get_or One after 0 bytes)) in
+    let all : All One (slip_bytes s) = subst (All One) front (All-take One (length (slip_bytes s)) after (All-from_get_or One after 0 bytes)) in
     (exact (slip_bytes s) all).reads s [] fits (sym (append-nil (slip_bytes s)))
 back s before after (Err fault) bytes written fits = tt
-
--- where what a call stands for is known
-pub record Both (s : Slip) (before after : List ℕ) (r : Result ℕ WritingFault) : Type 0 where
-  pub written : Written s before after r
-  pub reads_back : ReadsBack s r
-
-pub both : (s t : Slip) (before after : List ℕ) (r : Result ℕ WritingFault) → ((i : ℕ) → i < length after → One (get_or after i 0)) → t ≡ s → Written s before after r → IfOk r (λ _. Fits s) → Both t before after r
-both s t before after r bytes e w fits = subst (λ s. Both s before after r) (sym e) (record { written = w; reads_back = back s before after r bytes w fits })
-
-pub always : {P : Type 0} (r : Result ℕ WritingFault) → P → IfOk r (λ _. P)
-always (Ok n) p = p
-always (Err fault) p = tt

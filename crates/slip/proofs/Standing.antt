@@ -1,8 +1,9 @@
 -- A list's map and standing figures, one more at a time.
-use Rattle.std.proofs.Common.{◌≡◌, ℕ, zero, suc, ◌+◌, ◌*◌, ◌<◌, ◌≤◌, cond, eqb, List, [], ◌∷◌, ◌++◌, length, get_or, take, drop, sym, refl, ap, ◌∙◌, append_assoc, append-nil, arith, length-append, take-append-drop}
-use Rattle.std.proofs.lemmas.List.{take_more, drop_more, drop-drop}
+use Rattle.std.proofs.Common.{◌≡◌, ℕ, Bool, true, false, ◌+◌, ◌*◌, ◌<◌, ◌≤◌, cond, eqb, List, [], ◌∷◌, ◌++◌, length, get_or, take, drop, count_by, not, sym, refl, ap, ◌∙◌, append_assoc, append-nil, arith, length-append, take-append-drop}
+use Rattle.std.proofs.lemmas.List.{take_more, drop_more}
+use Rattle.std.proofs.lemmas.List.Sums.{sum_by-cons}
 use Rattle.std.proofs.lemmas.Bool.{ne_eqb, eq-eqb}
-use Rattle.slip.specs.Format.{two_bytes, map_byte, map_bytes, standing_bytes}
+use Rattle.slip.specs.Format.{two_bytes, standing_bytes}
 
 -- a figure's bytes: none where it is 0
 abbrev pub own_bytes : ℕ → List ℕ
@@ -31,15 +32,13 @@ standing_room ns i h =
     ap (λ l. length (standing_bytes l)) (drop_more ns i 0 h) ∙ length-append (own_bytes (get_or ns i 0)) _ in
     omega arith
 
-pub map_bytes_more : (k : ℕ) (ns : List ℕ) → map_bytes (k + 1) ns ≡ map_bytes k ns ++ (map_byte 128 (take 8 (drop (8 * k) ns)) ∷ [])
-map_bytes_more zero ns = refl
-map_bytes_more (suc k) ns =
-    let e : 8 + 8 * k ≡ 8 * suc k = omega arith in
-    let f : suc k + 1 ≡ suc (k + 1) = omega arith in
-    ap (λ n. map_bytes n ns) f
-    ∙ ap (λ l. map_byte 128 (take 8 ns) ∷ l) (map_bytes_more k (drop 8 ns))
-    ∙ ap (λ l. map_byte 128 (take 8 ns) ∷ (map_bytes k (drop 8 ns) ++ (map_byte 128 (take 8 l) ∷ []))) (drop-drop (8 * k) 8 ns ∙ ap (λ n. drop n ns) e)
+-- two bytes for each figure that is not 0
+own_count : (n : ℕ) (zero? : Bool) → eqb n 0 ≡ zero? → length (own_bytes n) ≡ 2 * cond (not (eqb n 0)) 1 0
+own_count n true e = simp e refl
+own_count n false e = simp e refl
 
-pub length_map_bytes : (k : ℕ) (ns : List ℕ) → length (map_bytes k ns) ≡ k
-length_map_bytes zero ns = refl
-length_map_bytes (suc k) ns = ap suc (length_map_bytes k (drop 8 ns))
+pub standing_count : (ns : List ℕ) → length (standing_bytes ns) ≡ 2 * count_by (λ n. not (eqb n 0)) ns
+standing_count [] = refl
+standing_count (n ∷ ns) =
+    let own : length (own_bytes n) ≡ 2 * cond (not (eqb n 0)) 1 0 = own_count n (eqb n 0) refl in
+    simp (length-append, sum_by-cons) (omega (arith, standing_count ns))

@@ -1,7 +1,7 @@
 -- The grounds against writing, in their order.
 use Rattle.std.proofs.Common.{◌≡◌, ℕ, false, replicate, pos, Some, None, refl}
 use Rattle.slip.specs.Format.{Slip, opening, post, strike, close}
-use Rattle.slip.specs.Writing.{writing_ground, handed, priced}
+use Rattle.slip.specs.Writing.{writing_ground}
 use Rattle.slip.specs.declared.fault.WritingFault.TheVariants.{Months, Figures, Buffer}
 
 -- so many months of 30 days
@@ -19,7 +19,7 @@ twelve_months = refl
 
 -- so many figures, all 0
 abbrev of_figures : ℕ → ℕ → Slip
-of_figures used surplus = post 3 (handed false (replicate used 0) (replicate surplus 0))
+of_figures used surplus = post 3 (record { rest = false; used = replicate used 0; surplus = replicate surplus 0 })
 
 pub figures_before_buffer : writing_ground (of_figures 48 47) 0 ≡ Some Figures
 figures_before_buffer = refl
@@ -31,7 +31,7 @@ pub fifteen_bytes : writing_ground (of_figures 48 48) 15 ≡ Some Buffer
 fifteen_bytes = refl
 
 -- a closing without prices
-pub two_bytes_left : writing_ground (close (priced (pos 0) 0 0)) 2 ≡ None
+pub two_bytes_left : writing_ground (close (record { fuel = pos 0; levy = 0; buy = 0 })) 2 ≡ None
 two_bytes_left = refl
 
 pub strike_short : writing_ground (strike 258) 2 ≡ Some Buffer

@@ -1,7 +1,7 @@
 -- Reading and the format are each other's inverse.
 use Rattle.std.specs.Prelude.{◌≡◌, ℕ, ◌<◌, ◌≤◌, List, ◌++◌, length, ℤ, pos, negsuc, Ok}
-use Rattle.std.specs.List.{AllByRecursion}
-use Rattle.settlement.specs.Settling.{MonthPrices}
+use Rattle.std.specs.List.{All}
+use Rattle.settlement.specs.declared.prices.MonthPrices.{MonthPrices}
 use Rattle.settlement.specs.Totals.{Figures}
 use Rattle.slip.specs.Format.{Slip, Opening, opening, post, correct, strike, close, slip_bytes}
 use Rattle.slip.specs.Reading.{reads_as}
@@ -18,7 +18,7 @@ SignedTwo (pos n) = n < 32768
 SignedTwo (negsuc n) = n < 32768
 
 abbrev pub FortyEight : List ℕ → Type 0
-FortyEight ns = (length ns ≡ 48) × AllByRecursion Two ns
+FortyEight ns = (length ns ≡ 48) × All Two ns
 
 pub record OpeningFits (o : Opening) : Type 0 where
   pub tariff : One o.tariff
@@ -28,7 +28,7 @@ pub record OpeningFits (o : Opening) : Type 0 where
   pub first : Two o.first
   pub some_month : 1 ≤ length o.lengths
   pub few_months : length o.lengths ≤ 12
-  pub lengths : AllByRecursion One o.lengths
+  pub lengths : All One o.lengths
 
 pub record EntryFits (day : ℕ) (f : Figures) : Type 0 where
   pub day_fits : Two day

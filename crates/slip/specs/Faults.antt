@@ -1,5 +1,5 @@
 -- The refusals of reading and writing slips, by number and place.
-use Rattle.tariff.specs.Faults.{Refusal}
+use Rattle.tariff.specs.declared.refusal.Refusal.{Refusal}
 use Rattle.slip.specs.declared.fault.SlipFault.{SlipFault}
 use Rattle.slip.specs.declared.fault.SlipFault.TheVariants.{Empty, Letter, Short, Map, Zero, Rest, Months}
 use Rattle.slip.specs.declared.fault.WritingFault.{WritingFault}

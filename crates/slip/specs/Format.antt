@@ -1,6 +1,6 @@
 -- The format of slips: what each one is in bytes.
 use Rattle.std.specs.Prelude.{ℕ, zero, suc, ◌+◌, ◌-◌, ◌/◌, ◌%◌, cond, List, [], ◌∷◌, ◌++◌, length, take, drop, ℤ, pos, negsuc, codes, ◌==◌}
-use Rattle.settlement.specs.Settling.{MonthPrices}
+use Rattle.settlement.specs.declared.prices.MonthPrices.{MonthPrices}
 use Rattle.settlement.specs.Totals.{Figures}
 
 -- what an opening is handed

@@ -108,7 +108,7 @@ read (letter ∷ bs) =
     cond (letter == 79) (opened bs)
     (cond (letter == 80) (entry (λ day rest used surplus. post day (record { rest = rest; used = used; surplus = surplus })) bs)
     (cond (letter == 67) (entry (λ day rest used surplus. correct day (record { rest = rest; used = used; surplus = surplus })) bs)
-    (cond (letter == 83) (on (number 1 bs) (λ day place bs. Ok (strike day, place, bs)))
+    (cond (letter == 83) (struck bs)
     (cond (letter == 77) (prices bs) (Err Letter)))))
 
 -- the slip and the bytes behind it, or the first fault

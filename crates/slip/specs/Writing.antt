@@ -1,7 +1,5 @@
 -- What writing a call as its slip does: the slip's bytes into a buffer, or the first ground against it.
-use Rattle.std.specs.Prelude.{◌≡◌, ℕ, Bool, true, cond, ◌&&◌, List, [], ◌++◌, length, drop, ℤ, Some, None, Ok, Err, Option, Result, ◌==◌, nat_le}
-use Rattle.settlement.specs.Settling.{MonthPrices}
-use Rattle.settlement.specs.Totals.{Figures}
+use Rattle.std.specs.Prelude.{◌≡◌, ℕ, Bool, true, cond, ◌&&◌, List, [], ◌++◌, length, drop, Some, None, Ok, Err, Option, Result, ◌==◌, nat_le}
 use Rattle.slip.specs.Format.{Slip, opening, post, correct, strike, close, slip_bytes}
 use Rattle.slip.specs.Reading.{reads_as}
 use Rattle.slip.specs.declared.fault.WritingFault.{WritingFault}
@@ -44,10 +42,3 @@ Written s before after r = Put (writing_ground s (length before)) (slip_bytes s)
 abbrev pub ReadsBack : Slip → Result ℕ WritingFault → Type 0
 ReadsBack s (Ok n) = reads_as (slip_bytes s) ≡ Ok (s, [])
 ReadsBack s (Err fault) = Unit {0}
-
--- what a posting, a correction and a closing are handed
-abbrev pub handed : Bool → List ℕ → List ℕ → Figures
-handed rest used surplus = record { rest = rest; used = used; surplus = surplus }
-
-abbrev pub priced : ℤ → ℕ → ℕ → MonthPrices
-priced fuel levy buy = record { fuel = fuel; levy = levy; buy = buy }

@@ -1,6 +1,8 @@
 ghost use Rattle.std.specs.Prelude.{◌≡◌};
 ghost use Rattle.slip.specs.Faults.{slip_refusal, writing_refusal};
 
+use tariff::refusal::Refusal;
+
 /// Why bytes are not read as a slip. A place counts the slip's bytes from 0.
 #[derive(Clone, Copy, PartialEq, Eq, Debug)]
 pub enum SlipFault {
@@ -20,32 +22,20 @@ pub enum SlipFault {
     Months { place: u16 },
 }
 
-impl SlipFault {
-    pub fn number(self) -> u8
-        ensures { result ≡ (slip_refusal self).number }
-    {
-        match self {
-            SlipFault::Empty => 1,
-            SlipFault::Letter => 2,
-            SlipFault::Short { .. } => 3,
-            SlipFault::Map { .. } => 4,
-            SlipFault::Zero { .. } => 5,
-            SlipFault::Rest { .. } => 6,
-            SlipFault::Months { .. } => 7,
-        }
-    }
+impl From<SlipFault> for Refusal {
+    ghost from_gives = { λ fault refusal. refusal ≡ slip_refusal fault };
 
-    pub fn place(self) -> u16
-        ensures { result ≡ (slip_refusal self).place }
-    {
-        match self {
-            SlipFault::Short { bytes } => bytes,
-            SlipFault::Map { place }
-            | SlipFault::Zero { place }
-            | SlipFault::Rest { place }
-            | SlipFault::Months { place } => place,
-            _ => 0,
-        }
+    fn from(fault: SlipFault) -> Refusal {
+        let (number, place) = match fault {
+            SlipFault::Empty => (1, 0),
+            SlipFault::Letter => (2, 0),
+            SlipFault::Short { bytes } => (3, bytes),
+            SlipFault::Map { place } => (4, place),
+            SlipFault::Zero { place } => (5, place),
+            SlipFault::Rest { place } => (6, place),
+            SlipFault::Months { place } => (7, place),
+        };
+        Refusal { number, place }
     }
 }
 
@@ -60,20 +50,15 @@ pub enum WritingFault {
     Buffer,
 }
 
-impl WritingFault {
-    pub fn number(self) -> u8
-        ensures { result ≡ (writing_refusal self).number }
-    {
-        match self {
+impl From<WritingFault> for Refusal {
+    ghost from_gives = { λ fault refusal. refusal ≡ writing_refusal fault };
+
+    fn from(fault: WritingFault) -> Refusal {
+        let number = match fault {
             WritingFault::Months => 14,
             WritingFault::Figures => 21,
             WritingFault::Buffer => 40,
-        }
-    }
-
-    pub fn place(self) -> u16
-        ensures { result ≡ (writing_refusal self).place }
-    {
-        0
+        };
+        Refusal { number, place: 0 }
     }
 }

@@ -1,6 +1,10 @@
 mod methods;
 
-/// What an opening is handed.
+use settlement::prices::MonthPrices;
+use settlement::reading::DayFigures;
+
+/// What an opening is handed, as its bytes have it: a tariff or a box that does not exist is refused by the counter, each
+/// behind other grounds.
 #[derive(Clone, Copy)]
 pub struct Opening<'a> {
     pub tariff: u8,
@@ -11,47 +15,19 @@ pub struct Opening<'a> {
     pub lengths: &'a [u8],
 }
 
-/// What a posting or a correction is handed.
+/// An opening or a call, which holds a day's lists of figures as an `F` each. A day stands beside its figures, as in the
+/// ledger, which keeps them by their day.
 #[derive(Clone, Copy)]
-pub struct Entry {
-    pub day: u16,
-    pub rest: bool,
-    pub used: [u16; 48],
-    pub surplus: [u16; 48],
+pub enum Order<'a, F> {
+    Open(Opening<'a>),
+    Post { day: u16, figures: DayFigures<F> },
+    Correct { day: u16, figures: DayFigures<F> },
+    Strike { day: u16 },
+    Close(MonthPrices),
 }
 
 /// A slip as it was read. An opening's calendar stays in the bytes it was read from.
-#[derive(Clone, Copy)]
-pub enum Slip<'a> {
-    Open(Opening<'a>),
-    Post(Entry),
-    Correct(Entry),
-    Strike { day: u16 },
-    Close { fuel: i16, levy: u16, buy: u16 },
-}
+pub type Slip<'a> = Order<'a, [u16; 48]>;
 
 /// A call to be written as a slip, with lists of any length.
-#[derive(Clone, Copy)]
-pub enum SlipCall<'a> {
-    Open(Opening<'a>),
-    Post {
-        day: u16,
-        rest: bool,
-        used: &'a [u16],
-        surplus: &'a [u16],
-    },
-    Correct {
-        day: u16,
-        rest: bool,
-        used: &'a [u16],
-        surplus: &'a [u16],
-    },
-    Strike {
-        day: u16,
-    },
-    Close {
-        fuel: i16,
-        levy: u16,
-        buy: u16,
-    },
-}
+pub type SlipCall<'a> = Order<'a, &'a [u16]>;

@@ -4,7 +4,10 @@
 #[cfg(test)]
 mod tests {
     use slip::reader::Reader;
+    use slip::slip::SlipCall;
     use std::process::Abort;
+    use std::test::Fail;
+    use tariff::refusal::Refusal;
 
     const OPENING: [u8; 11] = [b'O', 2, 6, 90, b'T', 1, 2, 3, 31, 28, 31];
 
@@ -20,20 +23,23 @@ mod tests {
 
     const CLOSING: [u8; 6] = [b'M', 0xA0, 255, 254, 3, 32];
 
-    // A refusal's number and place, or 0 and the number of bytes behind the slip.
-    fn looked_at(bytes: &[u8]) -> (u8, usize) {
+    // The number of bytes behind the slip, or its refusal's number and place.
+    fn looked_at(bytes: &[u8]) -> Result<usize, (u8, usize)> {
         match (Reader { text: bytes }).read_slip() {
-            Ok(read) => (0, read.rest.len()),
-            Err(fault) => (fault.number(), usize::from(fault.place())),
+            Ok(read) => Ok(read.rest.len()),
+            Err(fault) => {
+                let Refusal { number, place } = fault.into();
+                Err((number, usize::from(place)))
+            }
         }
     }
 
     // A slip is read where it is whole, and cut at every byte it is refused at the number of bytes that are there.
     fn cut_everywhere(rt: &impl Abort, slip: &[u8]) {
-        assert_eq!(rt; looked_at(slip), (0, 0));
-        assert_eq!(rt; looked_at(&slip[..0]), (1, 0));
+        assert_eq!(rt; looked_at(slip), Ok(0));
+        assert_eq!(rt; looked_at(&slip[..0]), Err((1, 0)));
         for length in 1..slip.len() {
-            assert_eq!(rt; looked_at(&slip[..length]), (3, length));
+            assert_eq!(rt; looked_at(&slip[..length]), Err((3, length)));
         }
     }
 
@@ -46,49 +52,62 @@ mod tests {
         cut_everywhere(&rt, &CLOSING);
     }
 
+    // A slip of up to 32 bytes that is read and written again is as it was.
+    fn read_and_written(rt: &impl Abort, slip: &[u8]) -> Result<(), Fail> {
+        let read = (Reader { text: slip }).read_slip()?;
+        let mut out = [0; 32];
+        let count = SlipCall::from(&read.slip).write(&mut out)?;
+        assert_eq!(rt; out.get(..count), Some(slip));
+        Ok(())
+    }
+
+    #[test]
+    fn a_slip_is_written_as_it_was_read(rt: HostRuntime) -> Result<(), Fail> {
+        read_and_written(&rt, &OPENING)?;
+        read_and_written(&rt, &POST)?;
+        read_and_written(&rt, &CORRECTION)?;
+        read_and_written(&rt, &STRIKE)?;
+        read_and_written(&rt, &CLOSING)
+    }
+
     // What is read of a slip, of up to 32 bytes, with another byte at a place.
-    fn changed(slip: &[u8], place: usize, byte: u8) -> (u8, usize) {
+    fn changed(slip: &[u8], place: usize, byte: u8) -> Result<usize, (u8, usize)> {
         let mut bytes = [0; 32];
-        let mut length = 0;
-        for old in slip {
-            if length < 32 {
-                bytes[length] = *old;
-                length += 1;
-            }
-        }
+        let end = slip.len().min(32);
+        bytes[..end].copy_from_slice(&slip[..end]);
         if place < 32 {
             bytes[place] = byte;
         }
-        looked_at(&bytes[..length.min(32)])
+        looked_at(&bytes[..end])
     }
 
     #[test]
     fn each_faulty_byte_is_refused_at_its_place(rt: HostRuntime) {
-        assert_eq!(rt; changed(&STRIKE, 0, b's'), (2, 0));
-        assert_eq!(rt; changed(&CLOSING, 1, 0xA1), (4, 1));
-        assert_eq!(rt; changed(&CLOSING, 1, 0xB0), (4, 1));
-        assert_eq!(rt; changed(&POST, 3, 2), (6, 3));
-        assert_eq!(rt; changed(&CORRECTION, 3, 255), (6, 3));
-        assert_eq!(rt; changed(&OPENING, 7, 0), (7, 7));
-        assert_eq!(rt; changed(&OPENING, 7, 13), (7, 7));
-        assert_eq!(rt; changed(&OPENING, 7, 12), (3, 11));
-        assert_eq!(rt; changed(&OPENING, 7, 2), (0, 1));
+        assert_eq!(rt; changed(&STRIKE, 0, b's'), Err((2, 0)));
+        assert_eq!(rt; changed(&CLOSING, 1, 0xA1), Err((4, 1)));
+        assert_eq!(rt; changed(&CLOSING, 1, 0xB0), Err((4, 1)));
+        assert_eq!(rt; changed(&POST, 3, 2), Err((6, 3)));
+        assert_eq!(rt; changed(&CORRECTION, 3, 255), Err((6, 3)));
+        assert_eq!(rt; changed(&OPENING, 7, 0), Err((7, 7)));
+        assert_eq!(rt; changed(&OPENING, 7, 13), Err((7, 7)));
+        assert_eq!(rt; changed(&OPENING, 7, 12), Err((3, 11)));
+        assert_eq!(rt; changed(&OPENING, 7, 2), Ok(1));
     }
 
     #[test]
     fn the_earliest_faulty_byte_decides(rt: HostRuntime) {
-        assert_eq!(rt; looked_at(b"x"), (2, 0));
-        assert_eq!(rt; looked_at(&[b'M', 1]), (4, 1));
-        assert_eq!(rt; looked_at(&[b'M', 0x80]), (3, 2));
-        assert_eq!(rt; looked_at(&[b'M', 0x80, 0]), (3, 3));
-        assert_eq!(rt; looked_at(&[b'M', 0xC0, 0, 0, 0, 0]), (5, 2));
-        assert_eq!(rt; looked_at(&[b'M', 0xC0, 0, 1, 0, 0]), (5, 4));
-        assert_eq!(rt; looked_at(&[b'P', 0, 0]), (3, 3));
-        assert_eq!(rt; looked_at(&[b'P', 0, 0, 2]), (6, 3));
+        assert_eq!(rt; looked_at(b"x"), Err((2, 0)));
+        assert_eq!(rt; looked_at(&[b'M', 1]), Err((4, 1)));
+        assert_eq!(rt; looked_at(&[b'M', 0x80]), Err((3, 2)));
+        assert_eq!(rt; looked_at(&[b'M', 0x80, 0]), Err((3, 3)));
+        assert_eq!(rt; looked_at(&[b'M', 0xC0, 0, 0, 0, 0]), Err((5, 2)));
+        assert_eq!(rt; looked_at(&[b'M', 0xC0, 0, 1, 0, 0]), Err((5, 4)));
+        assert_eq!(rt; looked_at(&[b'P', 0, 0]), Err((3, 3)));
+        assert_eq!(rt; looked_at(&[b'P', 0, 0, 2]), Err((6, 3)));
         assert_eq!(rt;
             looked_at(&[b'P', 0, 0, 0, 0x80, 0, 0, 0, 0, 0, 0, 0]),
-            (5, 10)
+            Err((5, 10))
         );
-        assert_eq!(rt; looked_at(&[b'O', 9, 0, 0, b'?', 0, 0, 0]), (7, 7));
+        assert_eq!(rt; looked_at(&[b'O', 9, 0, 0, b'?', 0, 0, 0]), Err((7, 7)));
     }
 }

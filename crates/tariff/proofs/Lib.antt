@@ -1,4 +1,2 @@
 pub mod Century
 pub mod Priced
-pub mod Rising
-pub mod Same

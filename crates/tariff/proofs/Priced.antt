@@ -2,7 +2,7 @@
 use Rattle.std.proofs.Common.{◌≡◌, ℕ, zero, suc, ◌+◌, ◌<◌, ◌≤◌, Bool, true, false, cond, ◌&&◌, ltb, leb, List, [], ◌∷◌, length, get_or, drop, Some, None, Option, sym, refl, ap, ◌∙◌, subst, le_of_suc-le-suc, not-suc-le-zero, add-one, arith, lit≤}
 use Rattle.std.proofs.ByRecursion.{All-get_or}
 use Rattle.std.proofs.lemmas.List.{at_drop_all}
-use Rattle.std.proofs.lemmas.Bool.{and_parts, both_ways, leb-true, lt-ltb, le-ltb}
+use Rattle.std.proofs.lemmas.Bool.{and_parts, both_ways, leb-true, lt-ltb}
 use Rattle.std.specs.List.{slice_get, AllByRecursion}
 use Rattle.tariff.specs.Meaning.{TariffMeaning, LawfulTariff, EveryKwhPriced}
 use Rattle.tariff.specs.Steps.{Step, rising, right_table, price_in, above, FirstAbove}
@@ -28,10 +28,6 @@ module _ (steps : List Step) (k i : ℕ) (price : Option ℕ) (so_far : price_in
   pub in_step : (end p : ℕ) → Some (Some end, p) ≡ slice_get steps i → k < end → Some p ≡ price
   in_step end p e lt =
       sym (ap (λ b. cond b (Some p) (price_in (drop (i + 1) steps) k)) (lt-ltb k end lt)) ∙ here (Some end, p) e
-
-  pub past_step : (end p : ℕ) → Some (Some end, p) ≡ slice_get steps i → end ≤ k → price_in (drop (i + 1) steps) k ≡ price
-  past_step end p e le =
-      sym (ap (λ b. cond b (Some p) (price_in (drop (i + 1) steps) k)) (le-ltb k end le)) ∙ here (Some end, p) e
 
   pub in_last : (p : ℕ) → Some (None, p) ≡ slice_get steps i → Some p ≡ price
   in_last p e = here (None, p) e

@@ -1,29 +1,23 @@
 -- A month's fuel price, from the average price of fuel.
-use Rattle.std.specs.Prelude.{ℕ, ◌+◌, ◌-◌, ◌*◌, Bool, cond, ◌&&◌, ℤ, pos, neg_ℤ, Some, None, Ok, Err, Option, Result, ◌==◌, nat_le}
+use Rattle.std.specs.Prelude.{ℕ, ◌+◌, ◌-◌, ◌*◌, Bool, cond, ◌&&◌, List, ℤ, pos, neg_ℤ, Some, None, Ok, Err, codes, Option, Result, ◌==◌, nat_le}
 use Rattle.tariff.specs.Rounding.{half_up}
-use Rattle.tariff.specs.Faults.{Refusal}
+use Rattle.tariff.specs.declared.refusal.Refusal.{Refusal}
 use Rattle.tariff.specs.declared.fuel.Area.{Area}
 use Rattle.tariff.specs.declared.fuel.Area.TheVariants.{Tokyo, Chubu, Kansai}
+use Rattle.tariff.specs.declared.fuel.Constants.{Constants}
 use Rattle.tariff.specs.declared.fuel.FuelFault.{FuelFault}
 use Rattle.tariff.specs.declared.fuel.FuelFault.TheVariants.{UnknownArea, Input}
 use Rattle.tariff.specs.declared.fuel.FuelPrice.{FuelPrice}
 
 -- an area's weights of the three fuels in ten-thousandths, its base price in yen, and its unit
-pub record Constants : Type 0 where
-  pub α : ℕ
-  pub β : ℕ
-  pub γ : ℕ
-  pub base : ℕ
-  pub unit : ℕ
-
 abbrev pub constants : Area → Constants
-constants Tokyo = record { α = 48; β = 3827; γ = 6584; base = 86100; unit = 183 }
-constants Chubu = record { α = 275; β = 4792; γ = 4275; base = 45900; unit = 223 }
-constants Kansai = record { α = 140; β = 3483; γ = 7227; base = 27100; unit = 165 }
+constants Tokyo = record { alpha = 48; beta = 3827; gamma = 6584; base = 86100; unit = 183 }
+constants Chubu = record { alpha = 275; beta = 4792; gamma = 4275; base = 45900; unit = 223 }
+constants Kansai = record { alpha = 140; beta = 3483; gamma = 7227; base = 27100; unit = 165 }
 
 -- the weighted average of the three inputs, half-up to 100 yen
 abbrev pub average_of : Constants → ℕ → ℕ → ℕ → ℕ
-average_of k a b c = 100 * half_up (k.α * a + k.β * b + k.γ * c) (10000 * 100)
+average_of k a b c = 100 * half_up (k.alpha * a + k.beta * b + k.gamma * c) (10000 * 100)
 
 -- what the average lies over or under the base, by the unit, in sen: its size half-up, its sign kept
 abbrev pub price_at : ℕ → ℕ → ℕ → ℤ
@@ -54,3 +48,13 @@ fuel_of number a b c = fuel_in (area_numbered number) a b c
 abbrev pub fuel_refusal : FuelFault → Refusal
 fuel_refusal UnknownArea = record { number = 30; place = 0 }
 fuel_refusal Input = record { number = 31; place = 0 }
+
+-- what a clerk is told of a refusal
+abbrev pub fuel_reason : FuelFault → List ℕ
+fuel_reason UnknownArea = codes "the area is not 1 (Tokyo), 2 (Chubu) or 3 (Kansai)"
+fuel_reason Input = codes "an input is above 400000 yen"
+
+abbrev pub area_name : Area → List ℕ
+area_name Tokyo = codes "Tokyo"
+area_name Chubu = codes "Chubu"
+area_name Kansai = codes "Kansai"

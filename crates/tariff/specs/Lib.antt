@@ -1,4 +1,5 @@
 pub mod Calendar
+pub mod Capacities
 pub mod Discount
 pub mod Faults
 pub mod Fuel
@@ -10,4 +11,5 @@ pub mod Tables
 pub mod Tariffs
 pub mod Percent
 pub mod HalfUp
+pub mod Kinds
 pub mod Lawful

@@ -1,5 +1,5 @@
 -- Tables of steps: the price of each kWh of a class.
-use Rattle.std.specs.Prelude.{◌≡◌, ℕ, ◌<◌, Bool, true, false, cond, ◌&&◌, List, [], ◌∷◌, length, Some, None, Option, ◌==◌, nat_le, nat_lt, slice_index_or}
+use Rattle.std.specs.Prelude.{◌≡◌, ℕ, ◌<◌, Bool, true, false, cond, ◌&&◌, List, [], ◌∷◌, length, Some, None, Option, nat_le, nat_lt, slice_index_or}
 use Rattle.std.specs.List.{slice_get}
 
 -- where a step ends, in kWh (the last has no end), and its price in sen
@@ -45,16 +45,3 @@ pub record FirstAbove (steps : List Step) (k : ℕ) (price : Option ℕ) : Type 
   pub ends_above : above step.0 k ≡ true
   pub none_before : (i : ℕ) (earlier : Step) → i < place → slice_get steps i ≡ Some earlier → above earlier.0 k ≡ false
   pub priced : price ≡ Some step.1
-
--- whether two tables are the same, step by step
-abbrev pub same_end : Option ℕ → Option ℕ → Bool
-same_end None None = true
-same_end None (Some b) = false
-same_end (Some a) None = false
-same_end (Some a) (Some b) = a == b
-
-abbrev pub same_steps : List Step → List Step → Bool
-same_steps [] [] = true
-same_steps [] (t ∷ ts) = false
-same_steps (s ∷ ss) [] = false
-same_steps (s ∷ ss) (t ∷ ts) = same_end s.0 t.0 && (s.1 == t.1 && same_steps ss ts)

@@ -2,12 +2,14 @@ ghost use Rattle.std.specs.Prelude.{◌≡◌, ℕ, List};
 ghost use Rattle.tariff.specs.Meaning.{TariffMeaning, Meaning, LawfulTariff, Lawful, EveryKwhPriced};
 ghost use Rattle.tariff.specs.Steps.{Step, step_at};
 
+use crate::steps::Step;
+
 /// The time classes of a contract and their prices.
 pub trait Tariff {
     /// The number of time classes, fixed for the kind of tariff.
     const CLASSES: u8;
 
-    ghost classes: { ℕ };
+    ghost CLASSES: { ℕ };
 
     ghost meaning: { Self → TariffMeaning };
 
@@ -15,17 +17,21 @@ pub trait Tariff {
     ghost tables: { Self → List (List Step) };
 
     fn class_count() -> u8
-        ensures { result ≡ classes };
+        ensures { result ≡ CLASSES }
+    {
+        Self::CLASSES
+    }
 
-    /// The class of a half-hour, by day number and the rest mark of the day's reading.
+    /// The class of a half-hour, by day number and the rest mark of the day's reading. Classes are numbered from 0 in the
+    /// order of the tariff's tables, and differ from one kind of tariff to the next.
     fn class(&self, day: u16, rest: bool, half_hour: u8) -> Option<u8>
         ensures { result ≡ (meaning self.now).class day rest half_hour };
 
     /// A step of a class: its end in kWh (none for the last step) and its price in sen.
-    fn step(&self, class: u8, step: u8) -> Option<(Option<u32>, u32)>
+    fn step(&self, class: u8, step: u8) -> Option<Step>
         ensures { result ≡ step_at (tables self.now) class step };
 
-    ghost kind: { (t : Self) → (meaning t).classes ≡ classes };
+    ghost kind: { (t : Self) → (meaning t).classes ≡ CLASSES };
 
     ghost lawful: { (t : Self) → LawfulTariff (meaning t) (tables t) };
 }
@@ -52,6 +58,8 @@ pub fn price_of<T: Tariff>(tariff: &T, class: u8, kwh: u32) -> Option<u32>
     ensures value { result ≡ (T.meaning tariff.now).price class kwh }
     ensures every { EveryKwhPriced (T.meaning tariff.now) (T.tables tariff.now) }
 {
+    // A step is asked of the tariff by its number, so there is no slice to go over; and of a chain over the numbers no
+    // clause says which steps its closures saw.
     for i in 0..4u8 {
         match tariff.step(class, i) {
             Some((Some(end), price)) => {

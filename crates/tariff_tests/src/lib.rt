@@ -8,12 +8,13 @@ mod tests {
     use tariff::day::Day;
     use tariff::discount::Discount;
     use tariff::fault::PlanFault;
-    use tariff::fuel::{Area, fuel_price};
+    use tariff::fuel::{Area, FuelInputs, fuel_price};
     use tariff::night::Night;
     use tariff::plan::Plan;
+    use tariff::refusal::Refusal;
     use tariff::seasonal::Seasonal;
     use tariff::standard::Standard;
-    use tariff::steps::StepTable;
+    use tariff::steps::{Step, StepTable};
     use tariff::supply::{Supply, Tariff, price_of};
 
     fn is_summer(day: u16) -> Option<bool> {
@@ -28,23 +29,15 @@ mod tests {
         Ok(Discount::new(supply, percent)?)
     }
 
-    // The number and place of the ground against a plan, none where it is made.
-    fn plan_refusal(tariff: u8, capacity: u8, percent: u8) -> Option<(u8, u16)> {
-        match Plan::new(tariff, capacity, percent) {
+    // What was refused, where it was.
+    fn refusal<T: Drop, F: Into<Refusal>>(answer: Result<T, F>) -> Option<Refusal> {
+        match answer {
             Ok(_) => None,
-            Err(fault) => Some((fault.number(), fault.place())),
+            Err(fault) => Some(fault.into()),
         }
     }
 
-    // The same of a fuel price.
-    fn fuel_refusal(area: u8, a: u32, b: u32, c: u32) -> Option<(u8, u16)> {
-        match fuel_price(area, a, b, c) {
-            Ok(_) => None,
-            Err(fault) => Some((fault.number(), fault.place())),
-        }
-    }
-
-    fn is_table(steps: &[(Option<u32>, u32)]) -> bool {
+    fn is_table(steps: &[Step]) -> bool {
         StepTable::new(steps).is_some()
     }
 
@@ -103,7 +96,6 @@ mod tests {
         }
     }
 
-    // No contract speaks of the constant `CLASSES`: only this keeps a discount's the same as its supply's.
     #[test]
     fn classes_are_counted_by_kind_of_tariff(rt: HostRuntime) {
         assert_eq!(rt; (Standard::CLASSES, Standard::class_count()), (1, 1));
@@ -260,8 +252,13 @@ mod tests {
         match Discount::new(Night::new(6)?, 101) {
             Ok(_) => Err(Fail::new("101 percent is no discount")),
             Err(refused) => {
-                assert_eq!(rt; refused.fault.number(), 12);
-                assert_eq!(rt; refused.fault.place(), 0);
+                assert_eq!(rt;
+                    Refusal::from(refused.fault),
+                    Refusal {
+                        number: 12,
+                        place: 0
+                    }
+                );
                 assert_eq!(rt; refused.supply.basic(true), 132_000);
                 Ok(())
             }
@@ -288,8 +285,8 @@ mod tests {
             (1, 0, 0, 11),
         ] {
             assert_eq!(rt;
-                plan_refusal(tariff, capacity, percent),
-                Some((number, 0)),
+                refusal(Plan::new(tariff, capacity, percent)),
+                Some(Refusal { number, place: 0 }),
                 "tariff {tariff}, capacity {capacity}, percent {percent}"
             );
         }
@@ -306,7 +303,7 @@ mod tests {
             (3, 49, 100),
         ] {
             assert_eq!(rt;
-                plan_refusal(tariff, capacity, percent),
+                refusal(Plan::new(tariff, capacity, percent)),
                 None,
                 "tariff {tariff}, capacity {capacity}, percent {percent}"
             );
@@ -345,8 +342,8 @@ mod tests {
             (2, 400_000, 400_000, 400_000, 373_700, 7_310),
             (3, 400_000, 400_000, 400_000, 434_000, 6_714),
         ] {
-            let month = fuel_price(area, a, b, c)?;
-            assert_eq!(rt; Area::from_number(area), Some(month.area));
+            let month = fuel_price(area, FuelInputs { a, b, c })?;
+            assert_eq!(rt; Area::try_from(area)?, month.area);
             assert_eq!(rt; month.average, average, "area {area} at {a}, {b}, {c}");
             assert_eq!(rt; month.price, price, "area {area} at {a}, {b}, {c}");
         }
@@ -373,7 +370,7 @@ mod tests {
             (3, 0, 24_000, 4_000, 11_300, -261),
             (2, 0, 0, 19_999, 8_500, -834),
         ] {
-            let month = fuel_price(area, a, b, c)?;
+            let month = fuel_price(area, FuelInputs { a, b, c })?;
             assert_eq!(rt; month.average, average, "area {area} at {a}, {b}, {c}");
             assert_eq!(rt; month.price, price, "area {area} at {a}, {b}, {c}");
         }
@@ -392,8 +389,8 @@ mod tests {
             (4, 400_001, 0, 0, 30),
         ] {
             assert_eq!(rt;
-                fuel_refusal(area, a, b, c),
-                Some((number, 0)),
+                refusal(fuel_price(area, FuelInputs { a, b, c })),
+                Some(Refusal { number, place: 0 }),
                 "area {area} at {a}, {b}, {c}"
             );
         }

@@ -1,26 +1,24 @@
-ghost use Rattle.std.specs.Prelude.{◌≡◌, Some, None, Ok, Err};
+ghost use Rattle.std.specs.Prelude.{◌≡◌};
 ghost use Rattle.settlement.specs.Limits.{figures_within};
-ghost use Rattle.settlement.specs.Readings.{reading_ground};
+ghost use Rattle.settlement.specs.Readings.{ReadingGiven};
 
-use super::{Reading, ReadingFault};
+use super::{DayFigures, Reading, ReadingFault};
 
-impl Reading {
-    pub fn new(rest: bool, used: &[u16], surplus: &[u16]) -> Result<Reading, ReadingFault>
-        ensures { elim result [ Ok d ↦ (d.rest ≡ rest) × (d.used ≡ used.now) × (d.surplus ≡ surplus.now) × (reading_ground used.now surplus.now ≡ None) | Err f ↦ reading_ground used.now surplus.now ≡ Some f ] }
-    {
-        let (Ok(half_hours), Ok(surpluses)) = (
-            <[u16; 48]>::try_from(used),
-            <[u16; 48]>::try_from(surplus),
-        ) else {
-            return Err(ReadingFault::Length);
-        };
-        if !all_within(used) || !all_within(surplus) {
+impl<'a> TryFrom<DayFigures<&'a [u16]>> for Reading {
+    type Error = ReadingFault;
+
+    ghost try_from_gives = { λ given r. ReadingGiven given.rest given.used.now given.surplus.now r };
+
+    fn try_from(given: DayFigures<&'a [u16]>) -> Result<Reading, ReadingFault> {
+        let used = <[u16; 48]>::try_from(given.used).map_err(|_| ReadingFault::Length)?;
+        let surplus = <[u16; 48]>::try_from(given.surplus).map_err(|_| ReadingFault::Length)?;
+        if !all_within(given.used) || !all_within(given.surplus) {
             return Err(ReadingFault::Figure);
         }
         Ok(Reading {
-            rest,
-            used: half_hours,
-            surplus: surpluses,
+            rest: given.rest,
+            used,
+            surplus,
         })
     }
 }
@@ -28,10 +26,5 @@ impl Reading {
 fn all_within(figures: &[u16]) -> bool
     ensures { result ≡ figures_within figures.now }
 {
-    for figure in figures {
-        if *figure > 2_500 {
-            return false;
-        }
-    }
-    true
+    figures.iter().all(|figure| *figure <= 2_500)
 }

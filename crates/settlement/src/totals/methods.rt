@@ -15,15 +15,12 @@ impl Totals {
         if used.is_empty() || used.len() > 4 || surplus > 4_200_000 {
             return None;
         }
-        let mut by_class = [0; 4];
-        let mut all = 0u64;
-        for (class, hundredths) in used.iter().enumerate() {
-            by_class[class] = *hundredths;
-            all += u64::from(*hundredths);
-        }
+        let all: u64 = used.iter().map(|hundredths| u64::from(*hundredths)).sum();
         if all > 4_200_000 {
             return None;
         }
+        let mut by_class = [0; 4];
+        by_class[..used.len()].copy_from_slice(used);
         Some(Totals {
             days: 35,
             classes: used.len() as u8,
@@ -40,19 +37,15 @@ fn total(figures: &[u16; 48]) -> u32
     ensures value { result ≡ sum figures.now }
     ensures bound { result ≤ 120000 }
 {
-    let mut sum = 0;
-    for figure in figures {
-        sum += u32::from(*figure);
-    }
-    sum
+    figures.iter().map(|figure| u32::from(*figure)).sum()
 }
 
 // Adds the day's used energy to the sums by class, each half-hour to that of its class.
 fn add_classes<T: Tariff>(tariff: &T, day: u16, reading: &Reading, sums: &mut [u32; 4])
     requires day { day ≤ 36524 }
-    requires room { sum (take T.classes sums.old) ≤ 4080000 }
-    ensures each { (class : ℕ) → class < T.classes → slice_index sums.new class ≡ slice_index sums.old class + day_in_class (T.meaning tariff.now) class (day, figures_of reading.now) }
-    ensures all { sum (take T.classes sums.new) ≡ sum (take T.classes sums.old) + sum reading.now.used }
+    requires room { sum (take T.CLASSES sums.old) ≤ 4080000 }
+    ensures each { (class : ℕ) → class < T.CLASSES → slice_index sums.new class ≡ slice_index sums.old class + day_in_class (T.meaning tariff.now) class (day, figures_of reading.now) }
+    ensures all { sum (take T.CLASSES sums.new) ≡ sum (take T.CLASSES sums.old) + sum reading.now.used }
 {
     for (half_hour, used) in reading.used.iter().enumerate() {
         if let Some(class) = tariff.class(day, reading.rest, half_hour as u8) {
@@ -73,14 +66,10 @@ pub fn gather<T: Tariff>(tariff: &T, first: u16, days: &[Option<Reading>]) -> Op
     let mut by_class = [0; 4];
     let mut surplus = 0;
     for (i, day) in days.iter().enumerate() {
-        match day {
-            Some(reading) => {
-                used += total(&reading.used);
-                add_classes(tariff, first + i as u16, reading, &mut by_class);
-                surplus += total(&reading.surplus);
-            }
-            None => return None,
-        }
+        let reading = day.as_ref()?;
+        used += total(&reading.used);
+        add_classes(tariff, first + i as u16, reading, &mut by_class);
+        surplus += total(&reading.surplus);
     }
     Some(Totals {
         days: days.len() as u8,

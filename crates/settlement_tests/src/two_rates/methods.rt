@@ -3,12 +3,13 @@ ghost use Rattle.settlement_tests.specs.Rates.{rates_lawful};
 ghost use Rattle.std.specs.Prelude.{refl};
 
 use super::TwoRates;
+use tariff::steps::Step;
 use tariff::supply::{Supply, Tariff};
 
 impl Tariff for TwoRates {
     const CLASSES: u8 = 2;
 
-    ghost classes = { 2 };
+    ghost CLASSES = { 2 };
 
     ghost meaning = { λ t. (rates t).tariff };
 
@@ -17,10 +18,6 @@ impl Tariff for TwoRates {
     ghost kind = { λ _. refl };
 
     ghost lawful = { λ t. (rates_lawful t).tariff };
-
-    fn class_count() -> u8 {
-        TwoRates::CLASSES
-    }
 
     fn class(&self, day: u16, rest: bool, half_hour: u8) -> Option<u8> {
         if day > 36_524 {
@@ -33,7 +30,7 @@ impl Tariff for TwoRates {
         }
     }
 
-    fn step(&self, class: u8, step: u8) -> Option<(Option<u32>, u32)> {
+    fn step(&self, class: u8, step: u8) -> Option<Step> {
         match class {
             0 => self.morning.step(step),
             1 => self.afternoon.step(step),

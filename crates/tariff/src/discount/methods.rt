@@ -3,19 +3,21 @@ ghost use Rattle.std.proofs.Common.{ap};
 ghost use Rattle.tariff.specs.Discount.{is_percent, percent_of, discounted, discounted_tariff, discounted_tables, DiscountHolds};
 ghost use Rattle.tariff.specs.Percent.{tariff_kept, supply_kept};
 
-use super::{Discount, Undiscounted};
+use super::Discount;
 use crate::fault::PlanFault;
+use crate::refused::Refused;
 use crate::rounding::round_hundredths;
+use crate::steps::Step;
 use crate::supply::{Supply, Tariff};
 
 impl<S: Supply> Discount<S> {
     /// The supply at 1 to 100 percent of its prices.
-    pub fn new(supply: S, percent: u8) -> Result<Discount<S>, Undiscounted<S>>
+    pub fn new(supply: S, percent: u8) -> Result<Discount<S>, Refused<S, PlanFault>>
         ensures made { elim result [ Ok d ↦ (d.supply ≡ supply) × (d.percent ≡ percent) × (is_percent percent ≡ true) | Err e ↦ (e.supply ≡ supply) × (e.fault ≡ PlanFault.Percent) × (is_percent percent ≡ false) ] }
         ensures holds { elim result [ Ok d ↦ DiscountHolds percent (S.Supply.whole supply) (S.Tariff.tables supply) | Err e ↦ Unit {0} ] }
     {
-        if percent < 1 || percent > 100 {
-            return Err(Undiscounted {
+        if !(1..=100).contains(&percent) {
+            return Err(Refused {
                 supply,
                 fault: PlanFault::Percent,
             });
@@ -35,7 +37,7 @@ fn price_at(percent: u8, price: u32) -> u32
 impl<T: Tariff> Tariff for Discount<T> {
     const CLASSES: u8 = T::CLASSES;
 
-    ghost classes = { T.Tariff.classes };
+    ghost CLASSES = { T.Tariff.CLASSES };
 
     ghost meaning = { λ d. discounted_tariff d.percent (T.Tariff.meaning d.supply) };
 
@@ -53,7 +55,7 @@ impl<T: Tariff> Tariff for Discount<T> {
         self.supply.class(day, rest, half_hour)
     }
 
-    fn step(&self, class: u8, step: u8) -> Option<(Option<u32>, u32)> {
+    fn step(&self, class: u8, step: u8) -> Option<Step> {
         let (end, price) = self.supply.step(class, step)?;
         Some((end, price_at(self.percent, price)))
     }

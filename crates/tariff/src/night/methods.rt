@@ -1,24 +1,25 @@
-ghost use Rattle.std.specs.Prelude.{◌≡◌, true, false, Ok, Err, refl};
-ghost use Rattle.tariff.specs.Tariffs.{is_capacity, night, night_tables};
+ghost use Rattle.std.specs.Prelude.{refl};
+ghost use Rattle.tariff.specs.Capacities.{MadeAt};
+ghost use Rattle.tariff.specs.Tariffs.{night, night_tables};
 ghost use Rattle.tariff.specs.Lawful.{night_lawful};
 
 use super::Night;
+use crate::capacity::Capacity;
+use crate::day::Day;
 use crate::fault::PlanFault;
-use crate::steps::StepTable;
+use crate::rounding::half_unless;
+use crate::steps::{Step, StepTable};
 use crate::supply::{Supply, Tariff};
 
 impl Night {
     /// The tariff at a capacity of 1 to 49 kVA.
     pub fn new(capacity: u8) -> Result<Night, PlanFault>
-        ensures { elim result [ Ok s ↦ (s.capacity ≡ capacity) × (is_capacity capacity ≡ true) | Err f ↦ (f ≡ PlanFault.Capacity) × (is_capacity capacity ≡ false) ] }
+        ensures { MadeAt (λ s. s.capacity.size) capacity result }
     {
-        if capacity < 1 || capacity > 49 {
-            return Err(PlanFault::Capacity);
-        }
         Ok(Night {
-            capacity,
-            by_day: StepTable::three((90, 2_434), (230, 3_243), 3_745),
-            by_night: StepTable::flat(1_248),
+            capacity: Capacity::try_from(capacity)?,
+            by_day: StepTable::of(&[(Some(90), 2_434), (Some(230), 3_243), (None, 3_745)]),
+            by_night: StepTable::of(&[(None, 1_248)]),
         })
     }
 }
@@ -26,24 +27,18 @@ impl Night {
 impl Tariff for Night {
     const CLASSES: u8 = 2;
 
-    ghost classes = { 2 };
+    ghost CLASSES = { 2 };
 
-    ghost meaning = { λ t. (night t.capacity).tariff };
+    ghost meaning = { λ t. (night t.capacity.size).tariff };
 
     ghost tables = { λ _. night_tables };
 
     ghost kind = { λ _. refl };
 
-    ghost lawful = { λ t. (night_lawful t.capacity t.sized.1).tariff };
-
-    fn class_count() -> u8 {
-        Night::CLASSES
-    }
+    ghost lawful = { λ t. (night_lawful t.capacity.size t.capacity.within.1).tariff };
 
     fn class(&self, day: u16, rest: bool, half_hour: u8) -> Option<u8> {
-        if day > 36_524 {
-            return None;
-        }
+        Day::new(day)?;
         match half_hour {
             14..=45 => Some(0),
             0..=47 => Some(1),
@@ -51,7 +46,7 @@ impl Tariff for Night {
         }
     }
 
-    fn step(&self, class: u8, step: u8) -> Option<(Option<u32>, u32)> {
+    fn step(&self, class: u8, step: u8) -> Option<Step> {
         match class {
             0 => self.by_day.step(step),
             1 => self.by_night.step(step),
@@ -61,19 +56,19 @@ impl Tariff for Night {
 }
 
 impl Supply for Night {
-    ghost whole = { λ s. night s.capacity };
+    ghost whole = { λ s. night s.capacity.size };
 
     ghost tariff = { λ _. refl };
 
-    ghost bound = { λ s. night_lawful s.capacity s.sized.1 };
+    ghost bound = { λ s. night_lawful s.capacity.size s.capacity.within.1 };
 
     fn basic(&self, used: bool) -> u32 {
-        let full = if self.capacity <= 6 {
+        let full = if self.capacity.size <= 6 {
             132_000
         } else {
-            220_000 + 28_600 * u32::from(self.capacity.saturating_sub(10))
+            220_000 + 28_600 * u32::from(self.capacity.size.saturating_sub(10))
         };
-        if used { full } else { full / 2 }
+        half_unless(used, full)
     }
 
     fn minimum(&self) -> u32 {

@@ -1,76 +1,59 @@
-ghost use Rattle.std.specs.Prelude.{◌≡◌, ◌≤◌, true, false, [], ◌∷◌, Some, None, MatchOption};
+ghost use Rattle.std.specs.Prelude.{◌≡◌, true, false, MatchOption};
 ghost use Rattle.std.specs.List.{slice_get};
 ghost use Rattle.tariff.specs.Steps.{rising, right_table};
 ghost use Rattle.tariff.specs.Tables.{steps_of};
 
-use super::StepTable;
+use super::{Step, StepTable};
 
 impl StepTable {
     /// The table of these steps, or none where they break the rule.
-    pub fn new(steps: &[(Option<u32>, u32)]) -> Option<StepTable>
+    pub fn new(steps: &[Step]) -> Option<StepTable>
         ensures { MatchOption result (right_table steps.now ≡ false) (λ t. (steps_of t ≡ steps.now) × (right_table steps.now ≡ true)) }
     {
         if steps.len() > 4 || !rises(steps) {
             return None;
         }
         let mut table = [(None, 0); 4];
-        for (i, step) in steps.iter().enumerate() {
-            table[i] = *step;
-        }
+        table[..steps.len()].copy_from_slice(steps);
         Some(StepTable {
             count: steps.len() as u8,
             steps: table,
         })
     }
 
-    // One price for every kWh.
-    pub(crate) fn flat(price: u32) -> StepTable
-        requires { price ≤ 20000 }
-        ensures { steps_of result ≡ (None, price) ∷ [] }
+    // The table of steps that keep the rule.
+    pub(crate) fn of(steps: &[Step]) -> StepTable
+        requires { right_table steps.now ≡ true }
+        ensures { steps_of result ≡ steps.now }
     {
-        StepTable {
-            count: 1,
-            steps: [(None, price), (None, 0), (None, 0), (None, 0)],
-        }
+        StepTable::new(steps).unwrap()
     }
 
-    // Two steps by end and price, and the price above them.
-    pub(crate) fn three(first: (u32, u32), second: (u32, u32), above: u32) -> StepTable
-        requires { rising 0 ((Some first.0, first.1) ∷ (Some second.0, second.1) ∷ (None, above) ∷ []) ≡ true }
-        ensures { steps_of result ≡ (Some first.0, first.1) ∷ (Some second.0, second.1) ∷ (None, above) ∷ [] }
+    // The steps in order.
+    fn as_slice(&self) -> &[Step]
+        ensures { result.now ≡ steps_of self.now }
     {
-        StepTable {
-            count: 3,
-            steps: [
-                (Some(first.0), first.1),
-                (Some(second.0), second.1),
-                (None, above),
-                (None, 0),
-            ],
-        }
+        &self.steps[..usize::from(self.count)]
     }
 
     /// The step of number i, counted from 0.
-    pub fn step(&self, i: u8) -> Option<(Option<u32>, u32)>
+    pub fn step(&self, i: u8) -> Option<Step>
         ensures { result ≡ slice_get (steps_of self.now) i }
     {
-        if i >= self.count {
-            return None;
-        }
-        Some(self.steps[i as usize])
+        self.as_slice().get(usize::from(i)).copied()
     }
 }
 
 // Whether the steps keep the rule of a table, however many they are.
-fn rises(steps: &[(Option<u32>, u32)]) -> bool
+fn rises(steps: &[Step]) -> bool
     ensures { result ≡ rising 0 steps.now }
 {
     let mut from = 0;
-    for (i, step) in steps.iter().enumerate() {
-        if step.1 > 20_000 {
+    for (i, &(end, price)) in steps.iter().enumerate() {
+        if price > 20_000 {
             return false;
         }
-        match step.0 {
+        match end {
             Some(end) => {
                 if end <= from || end > 99_999 {
                     return false;

@@ -3,4 +3,4 @@ use Rattle.account.specs.Runs.{Ran}
 use Rattle.account.proofs.replay.run.Given as goal
 
 abbrev pub invariant-loop-call : goal.invariant-loop-call
-invariant-loop-call g l = Ran (g.S.Supply.whole l.initial.account.supply) (g.S.Tariff.tables l.initial.account.supply) l.initial.account l.account (take l.call-index l.calls) (vec_items l.answers)
+invariant-loop-call g l = Ran g.S.Supply.whole g.S.Tariff.tables l.initial.account l.account (take l.call-index l.calls) (vec_items l.answers)

@@ -19,15 +19,6 @@ behind line out part after at (Err fault) part-is fits w =
     let long : length part ≡ length out - at = ap length part-is ∙ length-drop at out in
     absurd (omega (arith, w.0))
 
-pub returns-then-end-out : goal.returns-then-end-out
-returns-then-end-out c =
-    let out = c.args.out.now in
-    let at = c.args.at in
-    let line = c.args.line.now in
-    let count : c.length.result ≡ length (line_bytes line) = c.length.ensures.count in
-    let few = c.length.ensures.bound c.requires.1 in
-    record {
-      place = omega arith;
-      near = omega arith;
-      bytes = λ fits. behind line out _ c.write.new.out at c.write.result (take_rest out at) (omega arith) c.write.ensures.line;
-    }
+pub returns-then-end-out-clause-bytes : goal.returns-then-end-out-clause-bytes
+returns-then-end-out-clause-bytes c fits =
+    behind c.args.line.now c.args.out.now _ c.write.new.out c.args.at c.write.result (take_rest c.args.out.now c.args.at) (omega (arith, c.length.ensures.count)) c.write.ensures.line

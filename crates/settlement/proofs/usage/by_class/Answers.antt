@@ -1,32 +1,31 @@
-use Rattle.std.proofs.Common.{◌≡◌, ◌+◌, ◌-◌, ◌<◌, length, get_or, take, set, refl, ap, ◌∙◌, arith, length-take, get_or-take}
-use Rattle.settlement.proofs.Kwh.{enough, found_more, found_all}
+use Rattle.std.proofs.Common.{◌≡◌, ◌-◌, length, take, sum, arith, rules, tests}
+use Rattle.std.proofs.lemmas.Iterator.{YieldsList-from_slice}
+use Rattle.std.proofs.lemmas.Iterator.Consumers.{fits_from_yields_list}
+use Rattle.settlement.proofs.Kwh.{whole, whole_at, others_low, last_takes_rest}
 use Rattle.settlement.proofs.usage.by_class.Goals as goal
 
-pub overflow_sub-left : goal.overflow_sub-left
-overflow_sub-left c =
-    let xs = take c.args.totals.now.classes c.args.totals.now.by_class in
-    let below : c.loop-class.class < c.args.totals.now.classes = omega arith in
-    let within : c.loop-class.class < length xs = simp length-take (omega arith) in
-    enough c.args.usage xs c.loop-class.kwh c.loop-class.class c.loop-class.left _ (omega arith) (rw get_or-take) within c.loop-class.invariant
+pub sum-requires-clause-fits : goal.sum-requires-clause-fits
+sum-requires-clause-fits c =
+    let t = c.args.totals.now in
+    let four : length t.by_class ≡ 4 = search rules in
+    let found = whole_at _ _ t.by_class _ four c.map-kwh.ensures.items (λ p x r q k. search (rules, tests)) in
+    let low = others_low c.args.usage t.classes (t.classes - 1) t.by_class (omega arith) (omega arith) (omega (arith, t.added)) in
+    let rest : c.iter.result.rest.now ≡ take (c.from-last.result - 1) c.map-kwh.result = search rules in
+    fits_from_yields_list c.iter.result _ (YieldsList-from_slice (take (t.classes - 1) (whole t.by_class)) (rw (rest, found, c.from-last.ensures))) (omega arith)
 
-pub loop-class-preserved : goal.loop-class-preserved
-loop-class-preserved c =
-    let xs = take c.args.totals.now.classes c.args.totals.now.by_class in
-    let below : c.loop-class.class < c.args.totals.now.classes = omega arith in
-    let within : c.loop-class.class < length xs = simp length-take (omega arith) in
-    let more : c.loop-class.class + 1 < length xs = simp length-take (omega arith) in
-    found_more c.args.usage xs c.loop-class.kwh c.loop-class.class c.loop-class.left _ (omega arith) (rw get_or-take) within c.loop-class.invariant more
+pub overflow_sub-kwh : goal.overflow_sub-kwh
+overflow_sub-kwh c =
+    let t = c.args.totals.now in
+    let four : length t.by_class ≡ 4 = search rules in
+    let found = whole_at _ _ t.by_class _ four c.map-kwh.ensures.items (λ p x r q k. search (rules, tests)) in
+    let low = others_low c.args.usage t.classes (t.classes - 1) t.by_class (omega arith) (omega arith) (omega (arith, t.added)) in
+    let summed : c.sum.result ≡ sum (take (c.from-last.result - 1) c.map-kwh.result) = search rules in
+    rw (summed, found, c.from-last.ensures) low
 
 pub returns : goal.returns
 returns c =
-    let n = c.args.totals.now.classes in
-    let i = c.loop-class.class in
-    let xs = take n c.args.totals.now.by_class in
-    let here : n - 1 ≡ i = omega arith in
-    let all : n ≡ i + 1 = omega arith in
-    let below : i < n = omega arith in
-    let within : i < length xs = simp length-take (omega arith) in
-    let whole : i + 1 ≡ length xs = simp length-take (omega arith) in
-    ap (λ k. take n (set c.loop-class.kwh k c.loop-class.left)) here
-    ∙ ap (λ k. take k (set c.loop-class.kwh i c.loop-class.left)) all
-    ∙ found_all c.args.usage xs c.loop-class.kwh i c.loop-class.left (get_or xs i 0) (omega arith) refl within c.loop-class.invariant whole
+    let t = c.args.totals.now in
+    let four : length t.by_class ≡ 4 = search rules in
+    let found = whole_at _ _ t.by_class _ four c.map-kwh.ensures.items (λ p x r q k. search (rules, tests)) in
+    let summed : c.sum.result ≡ sum (take (c.from-last.result - 1) c.map-kwh.result) = search rules in
+    rw (summed, found, c.from-last.ensures) (last_takes_rest c.args.usage t.classes (t.classes - 1) t.by_class (omega arith) (omega arith))

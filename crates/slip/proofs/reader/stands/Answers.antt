@@ -27,7 +27,7 @@ all_bits_at (m ∷ map) (suc byte) place there lt =
 
 pub returns : goal.returns
 returns c =
-    let h = c.args.half_hour in
+    let h = c.args.bit in
     let map = c.args.map.now in
     let byte = get_or map (h / 8) 0 in
     let low : bit_and (byte / 2 ^ (7 - h % 8)) 1 ≡ byte / 2 ^ (7 - h % 8) % 2 = and_mask (byte / 2 ^ (7 - h % 8)) 1 in

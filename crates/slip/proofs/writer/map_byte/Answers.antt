@@ -1,12 +1,9 @@
 use Rattle.std.proofs.Common.{◌≡◌, ◌+◌, ◌/◌, cond, eqb, get_or, drop, ap, arith}
-use Rattle.std.proofs.lemmas.List.{drop_more, drop_all}
+use Rattle.std.proofs.lemmas.List.{drop_more}
 use Rattle.std.proofs.lemmas.Bool.{ne_eqb, eq-eqb}
 use Rattle.slip.specs.Format.{map_byte}
 use Rattle.slip.proofs.writer.map_byte.Goals as goal
 use Rattle.slip.proofs.writer.map_byte.Goals.{then-figure-ne0, else-figure-ne0}
-
-pub overflow_add-byte : goal.overflow_add-byte
-overflow_add-byte c = omega arith
 
 pub loop-figure-preserved : goal.loop-figure-preserved
 loop-figure-preserved c =
@@ -19,9 +16,3 @@ loop-figure-preserved c =
       | then-figure-ne0 w ↦ let own : cond (eqb n 0) 0 bit ≡ bit = ap (λ t. cond t 0 bit) (ne_eqb n 0 w.if-figure-ne0.true) in (omega (arith, w.byte-is), omega (arith, w.byte-is), omega (arith, w.byte-is))
       | else-figure-ne0 w ↦ let own : cond (eqb n 0) 0 bit ≡ 0 = ap (λ t. cond t 0 bit) (eq-eqb n 0 w.if-figure-ne0.false) in (omega (arith, w.byte-is), omega (arith, w.byte-is), omega (arith, w.byte-is))
     ]
-
-pub returns : goal.returns
-returns c =
-    let ns = c.args.figures.now in
-    let none : map_byte c.loop-figure.bit (drop c.loop-figure.figure-index ns) ≡ 0 = ap (map_byte c.loop-figure.bit) (drop_all c.loop-figure.figure-index ns (omega arith)) in
-    omega arith

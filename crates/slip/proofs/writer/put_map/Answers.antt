@@ -1,22 +1,17 @@
-use Rattle.std.proofs.Common.{◌≡◌, ◌+◌, ◌-◌, ◌*◌, [], ◌∷◌, ◌++◌, length, take, drop, sym, ap, ◌∙◌, arith}
-use Rattle.slip.specs.Format.{map_byte, map_bytes}
-use Rattle.line.specs.Lines.{written}
-use Rattle.line.proofs.Written.{written_none, written_more}
-use Rattle.slip.proofs.Standing.{map_bytes_more, length_map_bytes}
+use Rattle.std.proofs.Common.{◌≡◌, ◌+◌, [], ◌∷◌, ◌++◌, map, get_or, take, sym, ap, ◌∙◌, arith}
+use Rattle.std.proofs.lemmas.List.{take_more, map-append}
+use Rattle.std.proofs.lemmas.Grind.{common_steps}
+use Rattle.slip.specs.Format.{map_byte}
+use Rattle.line.proofs.Written.{handed, wrote_none, wrote_more}
 use Rattle.slip.proofs.writer.put_map.Goals as goal
 
-pub loop-byte-init : goal.loop-byte-init
-loop-byte-init c = (omega arith, written_none c.args.out.now c.args.start (omega (arith, c.requires.1)))
+pub loop-eight-init : goal.loop-eight-init
+loop-eight-init c = wrote_none c.args.pen.now (omega (arith, c.requires.room))
 
-pub loop-byte-preserved : goal.loop-byte-preserved
-loop-byte-preserved c =
-    let ns = c.args.figures.now in
-    let out = c.args.out.now in
-    let k = c.loop-byte.byte in
-    let eight : 8 * k + 8 - 8 * k ≡ 8 = omega arith in
-    let own : c.map_byte.result ≡ map_byte 128 (take 8 (drop (8 * k) ns)) = c.map_byte.ensures ∙ ap (λ n. map_byte 128 (take n (drop (8 * k) ns))) eight in
-    let many : length (map_bytes k ns) ≡ k = length_map_bytes k ns in (
-      omega arith,
-      written_more out c.args.start (map_bytes k ns) (c.map_byte.result ∷ []) c.loop-byte.invariant.1 c.put-at.ensures.bytes (omega arith) (omega (arith, c.requires.1))
-          ∙ ap (written out c.args.start) (ap (λ b. map_bytes k ns ++ (b ∷ [])) own ∙ sym (map_bytes_more k ns)),
-    )
+pub loop-eight-preserved : goal.loop-eight-preserved
+loop-eight-preserved c =
+    let eights = c.as_chunks.result.0.now in
+    let i = c.loop-eight.eight-index in
+    let own : map (map_byte 128) (take (i + 1) eights) ≡ map (map_byte 128) (take i eights) ++ (c.map_byte.result ∷ []) =
+    ap (map (map_byte 128)) (take_more eights i [] c.loop-eight-test.true) ∙ map-append (map_byte 128) (take i eights) (get_or eights i [] ∷ []) ∙ ap (λ b. map (map_byte 128) (take i eights) ++ (b ∷ [])) (sym c.map_byte.ensures) in
+    rw own (wrote_more c.loop-eight.invariant (handed (grind (arith, common_steps)) c.put.ensures))

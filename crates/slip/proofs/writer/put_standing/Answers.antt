@@ -1,17 +1,15 @@
-use Rattle.std.proofs.Common.{◌≡◌, ◌+◌, ◌≤◌, ◌++◌, length, get_or, take, sym, ap, ◌∙◌, append-nil, arith, length-append}
-use Rattle.std.proofs.lemmas.List.{take_all}
-use Rattle.slip.specs.Format.{two_bytes, standing_bytes}
-use Rattle.line.specs.Lines.{written}
-use Rattle.line.proofs.Written.{written_none, written_more}
+use Rattle.std.proofs.Common.{arith, ◌≤◌, ◌≡◌, ◌+◌, ◌++◌, ap, length, get_or, take, append-nil}
+use Rattle.line.proofs.Written.{wrote_none, wrote_more}
+use Rattle.slip.specs.Format.{standing_bytes}
 use Rattle.slip.proofs.Standing.{own_bytes, own_none, own_some, standing_more, standing_room}
 use Rattle.slip.proofs.writer.put_standing.Goals as goal
 use Rattle.slip.proofs.writer.put_standing.Goals.{then-figure-ne0, else-figure-ne0}
 
 pub loop-figure-init : goal.loop-figure-init
-loop-figure-init c = (omega arith, written_none c.args.out.now c.args.start (omega (arith, c.requires)))
+loop-figure-init c = wrote_none c.args.pen.now (omega (arith, c.requires))
 
-pub put_number-at-requires : goal.put_number-at-requires
-put_number-at-requires c =
+pub put_number-requires : goal.put_number-requires
+put_number-requires c =
     let ns = c.args.figures.now in
     let i = c.loop-figure.figure-index in
     let two : length (own_bytes (get_or ns i 0)) ≡ 2 = ap length (own_some (get_or ns i 0) c.if-figure-ne0.true) in
@@ -21,33 +19,10 @@ put_number-at-requires c =
 pub loop-figure-preserved : goal.loop-figure-preserved
 loop-figure-preserved c =
     let ns = c.args.figures.now in
-    let out = c.args.out.now in
-    let start = c.args.start in
     let i = c.loop-figure.figure-index in
     let n = get_or ns i 0 in
-    let more : standing_bytes (take (i + 1) ns) ≡ standing_bytes (take i ns) ++ own_bytes n = standing_more ns i (omega arith) in
-    let room : length (standing_bytes (take i ns)) + length (own_bytes n) ≤ length (standing_bytes ns) = standing_room ns i (omega arith) in
-    let longer : length (standing_bytes (take (i + 1) ns)) ≡ length (standing_bytes (take i ns)) + length (own_bytes n) = ap length more ∙ length-append (standing_bytes (take i ns)) (own_bytes n) in
+    let more : standing_bytes (take (i + 1) ns) ≡ standing_bytes (take i ns) ++ own_bytes n = standing_more ns i c.loop-figure-test.true in
     elim c.if-figure-ne0.branch [
-      | then-figure-ne0 w ↦
-          let own : own_bytes n ≡ two_bytes n = own_some n w.if-figure-ne0.true in
-          let two : length (own_bytes n) ≡ 2 = ap length own in (
-            omega (arith, w.at-is),
-            written_more out start (standing_bytes (take i ns)) (two_bytes n) c.loop-figure.invariant.1 (w.out-is ∙ w.put_number-at.ensures.bytes) c.loop-figure.invariant.0 (omega (arith, c.requires)) ∙ ap (written out start) (sym (more ∙ ap (λ l. standing_bytes (take i ns) ++ l) own)),
-          )
-      | else-figure-ne0 w ↦
-          let own = own_none n w.if-figure-ne0.false in
-          let none : length (own_bytes n) ≡ 0 = ap length own in (
-            omega (arith, w.at-is),
-            w.out-is ∙ c.loop-figure.invariant.1 ∙ ap (written out start) (sym (more ∙ ap (λ l. standing_bytes (take i ns) ++ l) own ∙ append-nil _)),
-          )
+      | then-figure-ne0 w ↦ rw (w.pen-is, more, own_some n w.if-figure-ne0.true) (wrote_more c.loop-figure.invariant w.put_number.ensures)
+      | else-figure-ne0 w ↦ rw (w.pen-is, more, own_none n w.if-figure-ne0.false, append-nil) c.loop-figure.invariant
     ]
-
-pub returns : goal.returns
-returns c =
-    let ns = c.args.figures.now in
-    let whole : take c.loop-figure.figure-index ns ≡ ns = take_all c.loop-figure.figure-index ns (omega arith) in
-    record {
-      place = c.loop-figure.invariant.0 ∙ ap (λ l. c.args.start + length (standing_bytes l)) whole;
-      bytes = c.loop-figure.invariant.1 ∙ ap (λ l. written c.args.out.now c.args.start (standing_bytes l)) whole;
-    }

@@ -1,25 +1,16 @@
-use Rattle.std.proofs.Common.{◌≡◌, ℕ, ◌+◌, List, [], ◌∷◌, length, sym, refl, ap, ◌∙◌, arith, w16, of_z}
+use Rattle.std.proofs.Common.{arith, length, sym, refl, ap, ◌∙◌, rules, w16, of_z}
 use Rattle.std.proofs.lemmas.Int.{to_z-of_z}
-use Rattle.slip.specs.Format.{close, slip_bytes, map_byte, standing_bytes}
-use Rattle.line.specs.Lines.{written}
-use Rattle.slip.specs.Writing.{priced}
-use Rattle.slip.proofs.Grounds.{no_ground, closing_bytes, signed_fits}
-use Rattle.line.proofs.Written.{written_more, written_front}
+use Rattle.std.proofs.lemmas.Grind.{common_steps}
+use Rattle.slip.specs.Format.{close}
+use Rattle.line.proofs.Written.{handed, wrote_more, wrote_as}
+use Rattle.slip.proofs.Grounds.{no_ground, closing_bytes}
+use Rattle.slip.proofs.Pens.{put_front}
 use Rattle.slip.proofs.writer.write_closing.Goals as goal
 
-pub returns : goal.returns
-returns c =
-    let out = c.args.out.now in
-    let s = close (priced c.args.fuel c.args.levy c.args.buy) in
-    let x = c.cast_unsigned.result in
-    let ns : List ℕ = x ∷ c.args.levy ∷ c.args.buy ∷ [] in
-    let is : slip_bytes s ≡ 77 ∷ (map_byte 128 ns ∷ standing_bytes ns) = closing_bytes c.args.fuel x c.args.levy c.args.buy (c.cast_unsigned.ensures ∙ ap (of_z w16) (to_z-of_z w16 c.args.fuel c.ranges.fuel)) in
-    let count : length (slip_bytes s) ≡ 2 + length (standing_bytes ns) = ap length is ∙ omega arith in
-    let head : c.put-at.new.out ≡ written out 0 (77 ∷ map_byte 128 ns ∷ []) = c.put-at.ensures.bytes ∙ ap (λ b. written out 0 (77 ∷ b ∷ [])) c.map_byte.ensures in
-    let all : c.put_standing.new.out ≡ written out 0 (77 ∷ (map_byte 128 ns ∷ standing_bytes ns)) =
-    written_more out 0 (77 ∷ map_byte 128 ns ∷ []) (standing_bytes ns) head c.put_standing.ensures.bytes c.put-at.ensures.place (omega arith) in
-    let behind : c.put_standing.result ≡ length (slip_bytes s) = omega arith in
-    record {
-      written = (no_ground s (length out) refl refl (omega arith), behind, written_front out (slip_bytes s) (all ∙ ap (written out 0) (sym is)) behind);
-      fits = record { fuel = signed_fits c.args.fuel c.ranges.fuel; levy = omega arith; buy = omega arith };
-    }
+pub returns-clause-written : goal.returns-clause-written
+returns-clause-written c =
+    let p = c.args.prices.now in
+    let is = closing_bytes p c.cast_unsigned.result (c.cast_unsigned.ensures ∙ ap (of_z w16) (to_z-of_z w16 p.fuel (search rules))) in
+    put_front _ c.args.out.now c.new-pen.ensures.unwritten c.new-pen.ensures.front
+    (wrote_as (sym is) (rw c.map_byte.ensures at (wrote_more (handed (grind (arith, common_steps)) c.put.ensures) c.put_standing.ensures)))
+    (no_ground (close p) (length c.args.out.now) refl refl) (search rules)

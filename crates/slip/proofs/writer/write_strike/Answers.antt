@@ -1,15 +1,12 @@
-use Rattle.std.proofs.Common.{◌≡◌, [], ◌∷◌, length, refl, arith}
-use Rattle.slip.specs.Format.{strike, slip_bytes, two_bytes}
-use Rattle.line.specs.Lines.{written}
+use Rattle.std.proofs.Common.{arith, length, refl, rules}
+use Rattle.std.proofs.lemmas.Grind.{common_steps}
+use Rattle.slip.specs.Format.{strike}
+use Rattle.line.proofs.Written.{handed, wrote_more}
 use Rattle.slip.proofs.Grounds.{no_ground}
-use Rattle.line.proofs.Written.{written_more, written_front}
+use Rattle.slip.proofs.Pens.{put_front}
 use Rattle.slip.proofs.writer.write_strike.Goals as goal
 
 pub returns : goal.returns
 returns c =
-    let out = c.args.out.now in
-    let day = c.args.day in
-    let two : c.put_number.new.out ≡ written out 0 (slip_bytes (strike day)) =
-    written_more out 0 (83 ∷ []) (two_bytes day) c.put-at.ensures.bytes c.put_number.ensures.bytes c.put-at.ensures.place (omega arith) in
-    let count : c.put_number.result ≡ 3 = omega arith in
-    (no_ground (strike day) (length out) refl refl (omega arith), count, written_front out (slip_bytes (strike day)) two count)
+    put_front _ c.args.out.now c.new-pen.ensures.unwritten c.new-pen.ensures.front (wrote_more (handed (grind (arith, common_steps)) c.put.ensures) c.put_number.ensures)
+    (no_ground (strike c.args.day) (length c.args.out.now) refl refl) (search rules)

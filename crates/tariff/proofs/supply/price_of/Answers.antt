@@ -1,5 +1,5 @@
 use Rattle.std.proofs.Common.{sym, ◌∙◌, arith}
-use Rattle.tariff.proofs.Priced.{in_step, past_step, in_last, no_step, no_more, every_priced, four_at_most}
+use Rattle.tariff.proofs.Priced.{in_step, in_last, no_step, no_more, every_priced, four_at_most}
 use Rattle.tariff.proofs.supply.price_of.Goals as goal
 
 pub returns-then-kwh-end : goal.returns-then-kwh-end
@@ -27,11 +27,6 @@ returns-in-None g c =
       value = no_step _ _ c.loop-i.i _ c.loop-i.invariant c.in-None.ensures ∙ sym (law.priced_by_steps _ _);
       every = every_priced _ _ law;
     }
-
-pub loop-i-preserved : goal.loop-i-preserved
-loop-i-preserved g c =
-    let found = c.in-Some-Some-default.ensures in
-    past_step _ _ c.loop-i.i _ c.loop-i.invariant c.in-Some-Some-default.end c.in-Some-Some-default.price (cc) c.if-kwh-end.false
 
 pub returns : goal.returns
 returns g c =

@@ -1,0 +1,3 @@
+pub mod Endings
+pub mod Numbers
+pub mod Refusals
