@@ -17,9 +17,9 @@ outcomes book [] = []
 outcomes book (slip ∷ slips) = outcome book slip ∷ outcomes (turned book slip) slips
 
 -- the yen in an answer: a refusal has none
-abbrev pub yen_in : Result ℤ CounterFault → ℤ
+abbrev pub yen_in : {E : Type 0} → Result ℤ E → ℤ
 yen_in (Ok yen) = yen
-yen_in (Err fault) = pos 0
+yen_in (Err refused) = pos 0
 
 -- the calls that come to an account: those of the slips behind its opening, refused ones too
 abbrev pub call_made : Book → Asked → List Request

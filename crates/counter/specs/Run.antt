@@ -1,5 +1,5 @@
 -- A run: the slips of an input taken one after another, and the lines that it writes.
-use Rattle.std.specs.Prelude.{◌≡◌, ℕ, zero, suc, ◌+◌, ◌*◌, ◌<◌, ◌≤◌, min, List, [], ◌∷◌, ◌++◌, map, length, drop, ℤ, pos, Some, None, Ok, Err, Result}
+use Rattle.std.specs.Prelude.{◌≡◌, ℕ, zero, suc, ◌+◌, ◌*◌, ◌<◌, ◌≤◌, min, List, [], ◌∷◌, ◌++◌, map, length, drop, ℤ, Some, None, Ok, Err, Result}
 use Rattle.tariff.specs.declared.refusal.Refusal.{Refusal}
 use Rattle.account.specs.History.{int_sum, closed_nets}
 use Rattle.account.specs.Ledger.{Opening, Ledger}
@@ -13,7 +13,7 @@ use Rattle.slip.specs.declared.fault.SlipFault.{SlipFault}
 use Rattle.slip.specs.declared.fault.SlipFault.TheVariants.{Empty, Letter, Short, Map, Zero, Rest, Months}
 use Rattle.counter.specs.Book.{Book, turned, outcome}
 use Rattle.counter.specs.Faults.{counter_refusal}
-use Rattle.counter.specs.Law.{book_after, outcomes, Accounted}
+use Rattle.counter.specs.Law.{book_after, outcomes, yen_in, Accounted}
 use Rattle.counter.specs.declared.fault.CounterFault.{CounterFault}
 use Rattle.counter.specs.declared.fault.CounterFault.TheVariants.{Slip as NotRead}
 
@@ -104,12 +104,8 @@ RunTold input =
     × (map (λ line. line.outcome) (run_lines None input) ≡ map shown (outcomes None (taken input) ++ map (λ fault. Err (NotRead fault)) ending))
 
 -- the yen on a line: a refusal has none
-abbrev pub yen_shown : Result ℤ Refusal → ℤ
-yen_shown (Ok yen) = yen
-yen_shown (Err refusal) = pos 0
-
 abbrev pub yen_on : Line → ℤ
-yen_on line = yen_shown line.outcome
+yen_on line = yen_in line.outcome
 
 -- the account that a run leads to: it keeps the law, and the yen on the lines add up to the nets of its closed months
 pub record RunAccounted (input : List ℕ) (o : Opening) (l : Ledger) : Type 0 where
