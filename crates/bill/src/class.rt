@@ -1,4 +1,4 @@
-ghost use Rattle.std.specs.Prelude.{Some};
+ghost use Rattle.std.specs.Prelude.{◌≡◌, Some};
 ghost use Rattle.std.specs.Fmt.{styled_text};
 ghost use Rattle.bill.specs.Statements.{class_name};
 
@@ -12,13 +12,11 @@ pub struct Class {
     pub number: u8,
 }
 
-impl fmt::Display for Class {
-    ghost output = { λ class. Some (class_name class.kind class.number) };
-
-    ghost styled_output = { λ class spec. Some (styled_text spec (class_name class.kind class.number)) };
-
-    fn fmt<W: fmt::Write>(&self, f: &mut fmt::Formatter<W>) -> fmt::Result {
-        f.pad(match (self.kind, self.number) {
+impl Class {
+    fn name(self) -> &'static str
+        ensures { result.now ≡ class_name self.kind self.number }
+    {
+        match (self.kind, self.number) {
             (TariffKind::Standard, _) => "all hours",
             (TariffKind::Night, 0) => "7:00-23:00",
             (TariffKind::Night, _) => "other hours",
@@ -26,6 +24,16 @@ impl fmt::Display for Class {
             (TariffKind::Seasonal, 1) => "summer day",
             (TariffKind::Seasonal, 2) => "other season day",
             (TariffKind::Seasonal, _) => "remaining hours",
-        })
+        }
+    }
+}
+
+impl fmt::Display for Class {
+    ghost output = { λ class. Some (class_name class.kind class.number) };
+
+    ghost styled_output = { λ class spec. Some (styled_text spec (class_name class.kind class.number)) };
+
+    fn fmt<W: fmt::Write>(&self, f: &mut fmt::Formatter<W>) -> fmt::Result {
+        f.pad(self.name())
     }
 }

@@ -13,6 +13,7 @@ use anyhow::{Context, bail};
 use program::number::read;
 use program::refusal::refused;
 use settlement::deposit_box::DepositBox;
+use settlement::fault::MonthFault;
 use settlement::prices::{MonthPrices, Prices};
 use settlement::totals::Totals;
 use std::alloc::Global;
@@ -100,14 +101,18 @@ impl<'a> Order<'a> {
         ensures meaning { IfOk result (λ p. (plan_meaning p ≡ discounted self.now.percent (numbered self.now.tariff self.now.capacity)) × (plan_tables p ≡ discounted_tables self.now.percent (numbered_tables self.now.tariff))) }
         ensures kind { IfOk result (λ p. kind_numbered self.now.tariff ≡ Some (kind_of p)) }
     {
-        Plan::new(self.tariff, self.capacity, self.percent).map_err(refused)
+        Plan::new(self.tariff, self.capacity, self.percent).map_err(|fault| refused(
+            fault,
+            fault.reason(),
+        ))
     }
 
     pub fn month(&self) -> anyhow::Result<Month>
         ensures { IfOk result (λ m. (box_named self.now.letter.now ≡ Some m.deposit_box) × (prices_of m.prices ≡ self.now.prices) × (given_totals self.now.used.items self.now.surplus ≡ Some (month_of m.totals))) }
     {
-        let deposit_box = lettered(self.letter).map_err(refused)?;
-        let prices = Prices::try_from(self.prices).map_err(refused)?;
+        let told = |fault: MonthFault| refused(fault, fault.reason());
+        let deposit_box = lettered(self.letter).map_err(told)?;
+        let prices = Prices::try_from(self.prices).map_err(told)?;
         let totals = Totals::new(&self.used, self.surplus).context(BEYOND)?;
         Ok(Month {
             deposit_box,

@@ -6,6 +6,7 @@ ghost use Rattle.counter.specs.Law.{RunKept};
 ghost use Rattle.counter.specs.View.{entry_of, by_tariff, account_entry, book_of};
 
 use crate::fault::CounterFault;
+use crate::open_account::OpenAccount;
 use account::account::Account;
 use account::terms::Terms;
 use slip::slip::{Opening, Slip, SlipCall};
@@ -93,12 +94,7 @@ pub fn call_any<A: Supply, B: Supply, C: Supply>(
     ensures answer { result ≡ outcome (Some (by_tariff (entry_of A.Supply.whole A.Tariff.tables) (entry_of B.Supply.whole B.Tariff.tables) (entry_of C.Supply.whole C.Tariff.tables) account.old)) (slip_of slip.now) }
     ensures book { Some (by_tariff (entry_of A.Supply.whole A.Tariff.tables) (entry_of B.Supply.whole B.Tariff.tables) (entry_of C.Supply.whole C.Tariff.tables) account.new) ≡ turned (Some (by_tariff (entry_of A.Supply.whole A.Tariff.tables) (entry_of B.Supply.whole B.Tariff.tables) (entry_of C.Supply.whole C.Tariff.tables) account.old)) (slip_of slip.now) }
 {
-    // Each arm has an account of another type.
-    match account {
-        ByTariff::Standard(account) => make_call(account, slip),
-        ByTariff::Night(account) => make_call(account, slip),
-        ByTariff::Seasonal(account) => make_call(account, slip),
-    }
+    account.take(slip)
 }
 
 /// Makes the call of a slip on an open account, over whatever supply, and answers its yen as the counter does.

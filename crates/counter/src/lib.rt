@@ -3,4 +3,5 @@
 
 pub mod counter;
 pub mod fault;
+pub mod open_account;
 pub mod settle;

@@ -45,7 +45,7 @@ fn priced(alloc: Global, words: &[String]) -> anyhow::Result<String>
         b: read::<u64, u32>(b.as_str())?,
         c: read::<u64, u32>(c.as_str())?,
     };
-    let found = fuel_price(area, inputs).map_err(refused)?;
+    let found = fuel_price(area, inputs).map_err(|fault| refused(fault, fault.reason()))?;
     let inputs = inputs_line(alloc, found.area, inputs)?;
     let price = price_line(alloc, found)?;
     Ok(format!(in alloc; "{inputs}\n{price}\n")?)

@@ -33,13 +33,14 @@ pub record Wrote (before : Pen) (text : List ℕ) (after : Pen) : Type 0 where
   pub place : after.at ≡ before.at + length text
   pub bytes : after.out.now ≡ written before.out.now before.at text
 
--- a pen was handed a text: it wrote it where there is room for all of it, and elsewhere its buffer is as it was
+-- a pen was handed a text: it wrote it where there is room for all of it, and elsewhere its buffer and place are as they
+-- were
 pub record Handed (before : Pen) (text : List ℕ) (after : Pen) : Type 0 where
   pub same_buffer : after.out.ghost_name ≡ before.out.ghost_name
   pub size : length after.out.now ≡ length before.out.now
   pub place : HasRoom before text → after.at ≡ before.at + length text
   pub bytes : HasRoom before text → after.out.now ≡ written before.out.now before.at text
-  pub full : length before.out.now < before.at + length text → after.out.now ≡ before.out.now
+  pub full : length before.out.now < before.at + length text → (after.out.now ≡ before.out.now) × (after.at ≡ before.at)
 
 -- a line is written at the front of a buffer that holds it, and refused at one that is too short, which stays as it was
 abbrev pub LineWritten : Line → List ℕ → List ℕ → Result ℕ LineFault → Type 0

@@ -20,7 +20,7 @@ impl<'a> Pen<'a> {
         Pen { out, at: 0 }
     }
 
-    /// Writes bytes where there is room for all of them, and elsewhere leaves the buffer as it was.
+    /// Writes bytes where there is room for all of them, and elsewhere leaves the buffer and the place as they were.
     pub fn put(&mut self, text: &[u8])
         ensures { Handed self.old text.now self.new }
     {

@@ -1,15 +1,14 @@
 ghost use Rattle.program.specs.Refusals.{Tells};
 
 use anyhow::anyhow;
-use std::fmt::Display;
 use tariff::refusal::Refusal;
 
 /// The error that tells a clerk of a refusal, by its number and why.
-pub fn refused<F: Display + Into<Refusal> + Copy>(fault: F) -> anyhow::Error
-    ensures { Tells (F.converts fault) (F.output fault) result }
+pub fn refused<F: Into<Refusal>>(fault: F, why: &str) -> anyhow::Error
+    ensures { Tells (F.converts fault) (Some why.now) result }
 {
     let number = fault.into().number;
-    anyhow!("refused ({number}): {fault}")
+    anyhow!("refused ({number}): {why}")
 }
 
 #[cfg(test)]
@@ -20,7 +19,7 @@ mod tests {
 
     #[test]
     fn number_and_reason(rt: HostRuntime) -> Result<(), Fail> {
-        let text = refused(PlanFault::Percent).to_string(rt.alloc())?;
+        let text = refused(PlanFault::Percent, PlanFault::Percent.reason()).to_string(rt.alloc())?;
         assert_eq!(rt; text.as_str(), "refused (12): the percent is not 1 to 100");
         Ok(())
     }

@@ -1,10 +1,10 @@
 -- The kWh of each class: each but the last drops its fraction, and the last takes what remains.
-use Rattle.std.proofs.Common.{◌≡◌, ℕ, zero, suc, ◌+◌, ◌-◌, ◌*◌, ◌/◌, ◌≤◌, List, [], ◌∷◌, map, length, take, set, sum, sym, ap, ◌∙◌, arith, length-take}
+use Rattle.std.proofs.Common.{◌≡◌, ℕ, zero, suc, ◌+◌, ◌-◌, ◌*◌, ◌/◌, ◌≤◌, List, [], ◌∷◌, ◌++◌, map, length, take, set, sum, sym, ap, ◌∙◌, arith, length-take}
 use Rattle.std.specs.Array.{IsMapOf}
 use Rattle.std.specs.Fn.{Called}
 use denote.Param.Members.{Mut}
 use Rattle.std.proofs.lemmas.Grind.{same_number_lists}
-use Rattle.std.proofs.lemmas.List.{get_or-map, length-map, take-map, take-take}
+use Rattle.std.proofs.lemmas.List.{get_or-map, length-map, take-map, take-take, take_at}
 use Rattle.std.proofs.lemmas.List.Sums.{sum_by-cons, sum_by-take-le}
 use Rattle.std.proofs.Math.Seq.{take-set-lt}
 use Rattle.settlement.specs.Usage.{kwh_by_class}
@@ -46,6 +46,10 @@ module _ (left n last : ℕ) (xs : List ℕ) (is : n ≡ last + 1) (wide : n ≤
   last_takes_rest =
       let many : suc last ≡ length (take n xs) = simp length-take (omega arith) in
       rw (take-set-lt n (whole xs) last _ (omega arith), ← take-take last n (whole xs) (omega arith), take-map (λ x. x / 100) n xs) (rest_last left (take n xs) last many)
+
+-- what is written behind the first n leaves them as they are
+pub front_stays : (n m : ℕ) (xs ys : List ℕ) → m ≡ n → m ≤ length xs → take n (take m xs ++ ys) ≡ take n xs
+front_stays n m xs ys same many = take_at (take m xs) ys n (simp length-take (omega (arith, same, many))) ∙ ap (λ k. take k xs) same
 
 -- they add up to the usage
 pub kwh_sum : (left : ℕ) (xs : List ℕ) → 1 ≤ length xs → sum xs ≤ 100 * left + 99 → sum (kwh_by_class left xs) ≡ left

@@ -25,13 +25,22 @@ impl From<MonthFault> for Refusal {
     }
 }
 
+impl MonthFault {
+    /// What a clerk is told of it.
+    pub fn reason(self) -> &'static str
+        ensures { result.now ≡ month_reason self }
+    {
+        match self {
+            MonthFault::UnknownBox => "the box is not S, M, L, T or R",
+            MonthFault::Price => "fuel is not -10000 to 10000, or levy or buy not 0 to 10000",
+        }
+    }
+}
+
 impl fmt::Display for MonthFault {
     ghost output = { λ fault. Some (month_reason fault) };
 
     fn fmt<W: fmt::Write>(&self, f: &mut fmt::Formatter<W>) -> fmt::Result {
-        f.write_str(match self {
-            MonthFault::UnknownBox => "the box is not S, M, L, T or R",
-            MonthFault::Price => "fuel is not -10000 to 10000, or levy or buy not 0 to 10000",
-        })
+        f.write_str(self.reason())
     }
 }

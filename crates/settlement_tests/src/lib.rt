@@ -140,6 +140,22 @@ mod tests {
     }
 
     #[test]
+    fn behind_the_last_class_no_kwh_stand(rt: HostRuntime) -> Result<(), Fail> {
+        // totals made by hand may have figures there
+        let totals = Totals {
+            days: 35,
+            classes: 1,
+            used: 100,
+            by_class: [100, 5_000, 700, 0],
+            surplus: 0,
+        };
+        let supply = Standard::new(10)?;
+        let month = settle(&supply, DepositBox::S, prices(0, 0, 0)?, &totals);
+        assert_eq!(rt; kwh(month), Some([1, 0, 0, 0]));
+        Ok(())
+    }
+
+    #[test]
     fn the_dearest_step_fills_first(rt: HostRuntime) {
         assert_eq!(rt;
             shares(night(25_000, 15_000, 20_000)),

@@ -28,14 +28,23 @@ impl From<PlanFault> for Refusal {
     }
 }
 
+impl PlanFault {
+    /// What a clerk is told of it.
+    pub fn reason(self) -> &'static str
+        ensures { result.now ≡ plan_reason self }
+    {
+        match self {
+            PlanFault::Tariff => "the tariff is not 1 (Standard), 2 (Night) or 3 (Seasonal)",
+            PlanFault::Capacity => "the capacity is not 1 to 49",
+            PlanFault::Percent => "the percent is not 1 to 100",
+        }
+    }
+}
+
 impl fmt::Display for PlanFault {
     ghost output = { λ fault. Some (plan_reason fault) };
 
     fn fmt<W: fmt::Write>(&self, f: &mut fmt::Formatter<W>) -> fmt::Result {
-        f.write_str(match self {
-            PlanFault::Tariff => "the tariff is not 1 (Standard), 2 (Night) or 3 (Seasonal)",
-            PlanFault::Capacity => "the capacity is not 1 to 49",
-            PlanFault::Percent => "the percent is not 1 to 100",
-        })
+        f.write_str(self.reason())
     }
 }

@@ -52,14 +52,23 @@ impl From<FuelFault> for Refusal {
     }
 }
 
+impl FuelFault {
+    /// What a clerk is told of it.
+    pub fn reason(self) -> &'static str
+        ensures { result.now ≡ fuel_reason self }
+    {
+        match self {
+            FuelFault::UnknownArea => "the area is not 1 (Tokyo), 2 (Chubu) or 3 (Kansai)",
+            FuelFault::Input => "an input is above 400000 yen",
+        }
+    }
+}
+
 impl fmt::Display for FuelFault {
     ghost output = { λ fault. Some (fuel_reason fault) };
 
     fn fmt<W: fmt::Write>(&self, f: &mut fmt::Formatter<W>) -> fmt::Result {
-        f.write_str(match self {
-            FuelFault::UnknownArea => "the area is not 1 (Tokyo), 2 (Chubu) or 3 (Kansai)",
-            FuelFault::Input => "an input is above 400000 yen",
-        })
+        f.write_str(self.reason())
     }
 }
 
@@ -67,11 +76,7 @@ impl fmt::Display for Area {
     ghost output = { λ area. Some (area_name area) };
 
     fn fmt<W: fmt::Write>(&self, f: &mut fmt::Formatter<W>) -> fmt::Result {
-        f.write_str(match self {
-            Area::Tokyo => "Tokyo",
-            Area::Chubu => "Chubu",
-            Area::Kansai => "Kansai",
-        })
+        f.write_str(self.name())
     }
 }
 
@@ -102,6 +107,16 @@ struct Constants {
 }
 
 impl Area {
+    pub fn name(self) -> &'static str
+        ensures { result.now ≡ area_name self }
+    {
+        match self {
+            Area::Tokyo => "Tokyo",
+            Area::Chubu => "Chubu",
+            Area::Kansai => "Kansai",
+        }
+    }
+
     fn constants(self) -> Constants
         ensures constants { result ≡ constants self }
         ensures weights { result.alpha + result.beta + result.gamma ≤ 10850 }

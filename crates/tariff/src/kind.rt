@@ -29,14 +29,22 @@ impl TryFrom<u8> for TariffKind {
     }
 }
 
+impl TariffKind {
+    pub fn name(self) -> &'static str
+        ensures { result.now ≡ kind_name self }
+    {
+        match self {
+            TariffKind::Standard => "Standard",
+            TariffKind::Night => "Night",
+            TariffKind::Seasonal => "Seasonal",
+        }
+    }
+}
+
 impl fmt::Display for TariffKind {
     ghost output = { λ kind. Some (kind_name kind) };
 
     fn fmt<W: fmt::Write>(&self, f: &mut fmt::Formatter<W>) -> fmt::Result {
-        f.write_str(match self {
-            TariffKind::Standard => "Standard",
-            TariffKind::Night => "Night",
-            TariffKind::Seasonal => "Seasonal",
-        })
+        f.write_str(self.name())
     }
 }

@@ -43,17 +43,19 @@ impl<S: Supply> Account<S> {
     pub fn open(supply: S, terms: Terms) -> Result<Account<S>, Refused<S, AccountFault>>
         ensures { MatchResult result (λ a. Opened S.Supply.whole S.Tariff.tables supply terms.entry a) (λ e. (e.supply ≡ supply) × (terms_ground terms.entry ≡ Some e.fault)) }
     {
-        // Either outcome takes the supply, so there are two arms, and no combinator.
-        match box_and_calendar(terms) {
-            Ok((deposit_box, calendar)) => Ok(Account {
-                supply,
-                deposit_box,
-                calendar,
-                closed: ArrayVec::new(),
-                table: DayTable::new(),
-            }),
-            Err(fault) => Err(Refused { supply, fault }),
-        }
+        // Either outcome takes the supply, so there are two arms, and no combinator. The account is made last: as an arm's
+        // value it would be copied, and it is large.
+        let (deposit_box, calendar) = match box_and_calendar(terms) {
+            Ok(found) => found,
+            Err(fault) => return Err(Refused { supply, fault }),
+        };
+        Ok(Account {
+            supply,
+            deposit_box,
+            calendar,
+            closed: ArrayVec::new(),
+            table: DayTable::new(),
+        })
     }
 
     // The number of days of the closed months.
