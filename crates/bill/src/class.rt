@@ -1,11 +1,9 @@
-ghost use Rattle.std.specs.Prelude.{◌≡◌, Some};
-ghost use Rattle.std.specs.Fmt.{styled_text};
+ghost use Rattle.std.specs.Prelude.{◌≡◌};
 ghost use Rattle.bill.specs.Statements.{class_name};
 
-use std::fmt;
 use tariff::kind::TariffKind;
 
-// A time class of a kind of tariff, counted from 0. It prints as its name.
+// A time class of a kind of tariff, counted from 0.
 #[derive(Clone, Copy)]
 pub struct Class {
     pub kind: TariffKind,
@@ -13,7 +11,8 @@ pub struct Class {
 }
 
 impl Class {
-    fn name(self) -> &'static str
+    // What a statement calls it.
+    pub fn name(self) -> &'static str
         ensures { result.now ≡ class_name self.kind self.number }
     {
         match (self.kind, self.number) {
@@ -25,15 +24,5 @@ impl Class {
             (TariffKind::Seasonal, 2) => "other season day",
             (TariffKind::Seasonal, _) => "remaining hours",
         }
-    }
-}
-
-impl fmt::Display for Class {
-    ghost output = { λ class. Some (class_name class.kind class.number) };
-
-    ghost styled_output = { λ class spec. Some (styled_text spec (class_name class.kind class.number)) };
-
-    fn fmt<W: fmt::Write>(&self, f: &mut fmt::Formatter<W>) -> fmt::Result {
-        f.pad(self.name())
     }
 }

@@ -11,7 +11,8 @@ use slip::slip::Slip;
 use tariff::plan::ByTariff;
 use tariff::supply::Supply;
 
-/// An open account, over whatever supply, or one of three.
+/// An open account, over whatever supply, or one of three. It takes what `call_any` does not: a caller's own kind of
+/// account, or one of three of those.
 pub trait OpenAccount {
     ghost held: { Self → Opening × Ledger };
 
@@ -33,6 +34,7 @@ impl<A: OpenAccount, B: OpenAccount, C: OpenAccount> OpenAccount for ByTariff<A,
     ghost held = { by_tariff A.OpenAccount.held B.OpenAccount.held C.OpenAccount.held };
 
     fn take(&mut self, slip: &Slip) -> Result<i64, CounterFault> {
+        // Each arm has an account of another type.
         match self {
             ByTariff::Standard(account) => account.take(slip),
             ByTariff::Night(account) => account.take(slip),

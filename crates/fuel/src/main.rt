@@ -20,6 +20,7 @@ const USAGE: &str =
 fn inputs_line(alloc: Global, area: Area, inputs: FuelInputs) -> Result<String, AllocError>
     ensures { IfOk result (λ s. string_bytes s ≡ inputs_line (area_name area) inputs.a inputs.b inputs.c) }
 {
+    let area = area.name();
     let FuelInputs { a, b, c } = inputs;
     format!(in alloc; "{area}: inputs {a}, {b} and {c} yen")
 }
